@@ -1,0 +1,3 @@
+pub mod Bank
+pub mod Mailbox
+pub mod Store

@@ -1,0 +1,4 @@
+// Memories with bytes of their own.
+pub mod bank;
+pub mod mailbox;
+pub mod store;

@@ -1,0 +1,6 @@
+pub mod bytes;
+pub mod decoded;
+mod fields;
+pub mod halfword;
+mod makers;
+pub mod word;

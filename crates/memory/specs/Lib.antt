@@ -1,0 +1,4 @@
+pub mod Calls
+pub mod Cell
+pub mod Memory
+pub mod Span

@@ -1,0 +1,4 @@
+pub mod fault;
+pub mod numbers;
+pub mod place;
+pub mod refusal;
