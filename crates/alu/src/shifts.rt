@@ -6,39 +6,39 @@ ghost use lib.Signed.{ltZ};
 ghost use lib.IntN.{ℤ, pos};
 ghost use Rattle.alu.specs.Values.{lsl, lsr, asr, rotl, signed, extended-byte, extended-halfword, even, target};
 
-pub fn lsl(x: u32, k: u32) -> u32
+pub(crate) fn lsl(x: u32, k: u32) -> u32
     ensures { λ r. ⌜ r ≡ lsl x k ⌝ }
 {
     if k < 32 { x << k } else { 0 }
 }
 
-pub fn lsr(x: u32, k: u32) -> u32
+pub(crate) fn lsr(x: u32, k: u32) -> u32
     ensures { λ r. ⌜ r ≡ lsr x k ⌝ }
 {
     if k < 32 { x >> k } else { 0 }
 }
 
-pub fn asr(x: u32, k: u32) -> u32
+pub(crate) fn asr(x: u32, k: u32) -> u32
     ensures { λ r. ⌜ r ≡ asr x k ⌝ }
 {
     (x.cast_signed() >> k.min(31)).cast_unsigned()
 }
 
-pub fn rotl(x: u32, k: u32) -> u32
+pub(crate) fn rotl(x: u32, k: u32) -> u32
     ensures { λ r. ⌜ r ≡ rotl x k ⌝ }
 {
     if k < 32 { x.rotate_left(k) } else { 0 }
 }
 
 // x below y, both read as two's complement.
-pub fn below(x: u32, y: u32) -> bool
+pub(crate) fn below(x: u32, y: u32) -> bool
     ensures { λ r. ⌜ r ≡ ltZ (signed x) (signed y) ⌝ }
 {
     x.cast_signed() < y.cast_signed()
 }
 
 // x, read as two's complement, below n.
-pub fn below_constant(x: u32, n: u32) -> bool
+pub(crate) fn below_constant(x: u32, n: u32) -> bool
     ensures { λ r. ⌜ r ≡ ltZ (signed x) (pos n) ⌝ }
 {
     (x.cast_signed() as i64) < n as i64

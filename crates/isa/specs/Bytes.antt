@@ -1,6 +1,11 @@
 -- Forms as bytes of an image.
 use mathlib.Core.List.{List, [], _∷_}
+use mathlib.Core.Bool.{cond}
 use Prim.Native.Nat.{ℕ, _+_, _*_, _/_, _%_}
+use lib.Dec.{ltb, leb}
+use lib.ListN.{length, getD}
+use Rattle.std.specs.declared.option.Option.{Option}
+use Rattle.std.specs.declared.option.Option.the-variants.{Some, None}
 use Rattle.isa.specs.declared.form.Form.{Form}
 use Rattle.isa.specs.declared.form.Form.the-variants.{Short, Long}
 
@@ -16,3 +21,14 @@ image (Long w) = w / 65536 % 256 ∷ w / 16777216 ∷ w % 256 ∷ w / 256 % 256 
 abbrev pub size : Form → ℕ
 size (Short h) = 2
 size (Long w) = 4
+
+-- the form at the front of a code: a halfword, or a word where the top two bits of the first halfword are 11
+abbrev pub front-form : List ℕ → Option Form
+front-form code =
+    cond
+    (leb 2 (length code))
+    (cond
+    (ltb (half (getD code 0 0) (getD code 1 0)) 0xC000)
+    (Some (Short (half (getD code 0 0) (getD code 1 0))))
+    (cond (leb 4 (length code)) (Some (Long (half (getD code 0 0) (getD code 1 0) * 65536 + half (getD code 2 0) (getD code 3 0)))) None))
+    None

@@ -1,7 +1,7 @@
 // A form's bytes, in the order in which they lie in the image.
 ghost use mathlib.Core.Path.{_≡_};
 ghost use lib.ListN.{getD};
-ghost use Rattle.isa.specs.Bytes.{image, size};
+ghost use Rattle.isa.specs.Bytes.{image, size, front-form};
 use crate::form::Form;
 
 impl Form {
@@ -28,5 +28,23 @@ impl Form {
             (Form::Long(w), 3) => (w / 256 % 256) as u8,
             _ => 0,
         }
+    }
+
+    // The form at the front of a code, whatever it spells; none where the code ends within it.
+    pub fn at_front(code: &[u8]) -> Option<Form>
+        ensures { λ r. ⌜ r ≡ front-form (now (code .entry)) ⌝ }
+    {
+        if code.len() < 2 {
+            return None;
+        }
+        let first = code[0] as u16 + 256 * code[1] as u16;
+        if first < 0xc000 {
+            return Some(Form::Short(first));
+        }
+        if code.len() < 4 {
+            return None;
+        }
+        let second = code[2] as u16 + 256 * code[3] as u16;
+        Some(Form::Long(first as u32 * 65536 + second as u32))
     }
 }

@@ -1,0 +1,2 @@
+// How instructions are shown.
+pub mod line;
