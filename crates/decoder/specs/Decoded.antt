@@ -51,7 +51,3 @@ on-ok f (Err e) = Err e
 -- every form of an instruction decodes to it, whatever follows, which is left as the rest
 abbrev pub Reads-back : Type 0
 Reads-back = (f : Form) (i : Instruction) (bytes : List ℕ) → Spelled f i → decoded (image f ++ bytes) ≡ Ok (record { instruction = i; length = size f; rest = bytes })
-
--- too few bytes for an instruction are none
-abbrev pub Nothing-in-nothing : Type 0
-Nothing-in-nothing = decoded [] ≡ too-few

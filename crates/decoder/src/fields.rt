@@ -4,7 +4,7 @@ ghost use Prim.Native.Nat.{ℕ, _+_, _-_, _*_, _/_, _%_, _^_, _<_, _≤_};
 ghost use Rattle.table.specs.Decode.{signed};
 
 // The `width` bits from bit `from` up.
-pub fn field(form: u32, from: u32, width: u32) -> u32
+pub(crate) fn field(form: u32, from: u32, width: u32) -> u32
     requires { ⌜ from < 32 ⌝ ∗ ⌜ width < 32 ⌝ }
     ensures { λ r. ⌜ r ≡ form / 2 ^ from % 2 ^ width ⌝ }
 {
@@ -12,7 +12,7 @@ pub fn field(form: u32, from: u32, width: u32) -> u32
 }
 
 // The `width` lowest bits.
-pub fn low(form: u32, width: u32) -> u32
+pub(crate) fn low(form: u32, width: u32) -> u32
     requires { ⌜ width < 32 ⌝ }
     ensures { λ r. ⌜ r ≡ form % 2 ^ width ⌝ }
 {
@@ -20,7 +20,7 @@ pub fn low(form: u32, width: u32) -> u32
 }
 
 // A register of three, four or five bits.
-pub fn register(form: u32, from: u32, width: u32) -> u8
+pub(crate) fn register(form: u32, from: u32, width: u32) -> u8
     requires { ⌜ from < 32 ⌝ ∗ ⌜ width ≤ 5 ⌝ }
     ensures { λ r. ⌜ r ≡ form / 2 ^ from % 2 ^ width ⌝ }
 {
@@ -28,7 +28,7 @@ pub fn register(form: u32, from: u32, width: u32) -> u8
 }
 
 // The lowest `width` bits as a number, two's complement.
-pub fn displacement(form: u32, width: u32) -> i32
+pub(crate) fn displacement(form: u32, width: u32) -> i32
     requires { ⌜ 1 ≤ width ⌝ ∗ ⌜ width ≤ 26 ⌝ }
     ensures { λ r. ⌜ r ≡ signed width (form % 2 ^ width) ⌝ }
 {

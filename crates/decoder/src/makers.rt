@@ -7,13 +7,13 @@ ghost use Rattle.table.specs.Decode.{signed};
 use crate::fields::*;
 use isa::operation::*;
 
-pub fn act(operation: Operation) -> Option<Instruction>
+pub(crate) fn act(operation: Operation) -> Option<Instruction>
     ensures { λ r. ⌜ r ≡ Some (Instruction.Plain (normal operation)) ⌝ }
 {
     Some(Instruction::Plain(operation.normal()))
 }
 
-pub fn branch(branch: Branch, form: u32, width: u32) -> Option<Instruction>
+pub(crate) fn branch(branch: Branch, form: u32, width: u32) -> Option<Instruction>
     requires { ⌜ 1 ≤ width ⌝ ∗ ⌜ width ≤ 26 ⌝ }
     ensures { λ r. ⌜ r ≡ Some (Instruction.Relative branch (signed width (form % 2 ^ width))) ⌝ }
 {
@@ -24,7 +24,7 @@ pub fn branch(branch: Branch, form: u32, width: u32) -> Option<Instruction>
 }
 
 // x, z and y of r0 to r7.
-pub fn three_low(op: RegisterOp, h: u32) -> Option<Instruction>
+pub(crate) fn three_low(op: RegisterOp, h: u32) -> Option<Instruction>
     ensures { λ r. ⌜ r ≡ Some (Instruction.Plain (normal (Operation.Register op (h / 32 % 8) (h / 256 % 8) (h / 4 % 8)))) ⌝ }
 {
     act(Operation::Register {
@@ -36,7 +36,7 @@ pub fn three_low(op: RegisterOp, h: u32) -> Option<Instruction>
 }
 
 // z, which is x too, and y of r0 to r15.
-pub fn two(op: RegisterOp, h: u32) -> Option<Instruction>
+pub(crate) fn two(op: RegisterOp, h: u32) -> Option<Instruction>
     ensures { λ r. ⌜ r ≡ Some (Instruction.Plain (normal (Operation.Register op (h / 64 % 16) (h / 64 % 16) (h / 4 % 16)))) ⌝ }
 {
     let z = register(h, 6, 4);
@@ -48,7 +48,7 @@ pub fn two(op: RegisterOp, h: u32) -> Option<Instruction>
     })
 }
 
-pub fn low_compare(op: CompareOp, h: u32) -> Option<Instruction>
+pub(crate) fn low_compare(op: CompareOp, h: u32) -> Option<Instruction>
     ensures { λ r. ⌜ r ≡ Some (Instruction.Plain (Operation.Compare op (h / 4 % 16) (h / 64 % 16))) ⌝ }
 {
     act(Operation::Compare {
@@ -59,7 +59,7 @@ pub fn low_compare(op: CompareOp, h: u32) -> Option<Instruction>
 }
 
 // x and z of r0 to r7, and five bits.
-pub fn low_shift(op: ImmediateOp, h: u32) -> Option<Instruction>
+pub(crate) fn low_shift(op: ImmediateOp, h: u32) -> Option<Instruction>
     ensures { λ r. ⌜ r ≡ Some (Instruction.Plain (normal (Operation.Immediate op (h / 32 % 8) (h / 256 % 8) (h % 32)))) ⌝ }
 {
     act(Operation::Immediate {
@@ -71,7 +71,7 @@ pub fn low_shift(op: ImmediateOp, h: u32) -> Option<Instruction>
 }
 
 // z, which is x too, of r0 to r7, and five bits.
-pub fn low_bit(op: ImmediateOp, h: u32) -> Option<Instruction>
+pub(crate) fn low_bit(op: ImmediateOp, h: u32) -> Option<Instruction>
     ensures { λ r. ⌜ r ≡ Some (Instruction.Plain (normal (Operation.Immediate op (h / 256 % 8) (h / 256 % 8) (h % 32)))) ⌝ }
 {
     let z = register(h, 8, 3);
@@ -83,7 +83,7 @@ pub fn low_bit(op: ImmediateOp, h: u32) -> Option<Instruction>
     })
 }
 
-pub fn low_test(op: TestOp, h: u32, n: u32) -> Option<Instruction>
+pub(crate) fn low_test(op: TestOp, h: u32, n: u32) -> Option<Instruction>
     ensures { λ r. ⌜ r ≡ Some (Instruction.Plain (Operation.Test op (h / 256 % 8) n)) ⌝ }
 {
     act(Operation::Test {
@@ -94,7 +94,7 @@ pub fn low_test(op: TestOp, h: u32, n: u32) -> Option<Instruction>
 }
 
 // x and z of r0 to r7, at an offset.
-pub fn low_access(op: AccessOp, h: u32, n: u32) -> Option<Instruction>
+pub(crate) fn low_access(op: AccessOp, h: u32, n: u32) -> Option<Instruction>
     ensures { λ r. ⌜ r ≡ Some (Instruction.Plain (Operation.Access op (h / 32 % 8) (h / 256 % 8) n)) ⌝ }
 {
     act(Operation::Access {
@@ -106,7 +106,7 @@ pub fn low_access(op: AccessOp, h: u32, n: u32) -> Option<Instruction>
 }
 
 // z of r0 to r7, at an offset of eight bits in two fields from r14.
-pub fn stack_access(op: AccessOp, h: u32) -> Option<Instruction>
+pub(crate) fn stack_access(op: AccessOp, h: u32) -> Option<Instruction>
     ensures { λ r. ⌜ r ≡ Some (Instruction.Plain (Operation.Access op (h / 32 % 8) 14 (4 * (h / 256 % 8 * 32 + h % 32)))) ⌝ }
 {
     act(Operation::Access {
@@ -118,7 +118,7 @@ pub fn stack_access(op: AccessOp, h: u32) -> Option<Instruction>
 }
 
 // Any three registers.
-pub fn three(op: RegisterOp, w: u32) -> Option<Instruction>
+pub(crate) fn three(op: RegisterOp, w: u32) -> Option<Instruction>
     ensures { λ r. ⌜ r ≡ Some (Instruction.Plain (normal (Operation.Register op (w % 32) (w / 65536 % 32) (w / 2097152 % 32)))) ⌝ }
 {
     act(Operation::Register {
@@ -130,7 +130,7 @@ pub fn three(op: RegisterOp, w: u32) -> Option<Instruction>
 }
 
 // Any two registers, and five bits.
-pub fn shift(op: ImmediateOp, w: u32) -> Option<Instruction>
+pub(crate) fn shift(op: ImmediateOp, w: u32) -> Option<Instruction>
     ensures { λ r. ⌜ r ≡ Some (Instruction.Plain (normal (Operation.Immediate op (w % 32) (w / 65536 % 32) (w / 2097152 % 32)))) ⌝ }
 {
     act(Operation::Immediate {
@@ -142,7 +142,7 @@ pub fn shift(op: ImmediateOp, w: u32) -> Option<Instruction>
 }
 
 // Any two registers, and a constant.
-pub fn immediate(op: ImmediateOp, w: u32, n: u32) -> Option<Instruction>
+pub(crate) fn immediate(op: ImmediateOp, w: u32, n: u32) -> Option<Instruction>
     ensures { λ r. ⌜ r ≡ Some (Instruction.Plain (normal (Operation.Immediate op (w / 2097152 % 32) (w / 65536 % 32) n))) ⌝ }
 {
     act(Operation::Immediate {
@@ -154,7 +154,7 @@ pub fn immediate(op: ImmediateOp, w: u32, n: u32) -> Option<Instruction>
 }
 
 // Any two registers, at an offset.
-pub fn access(op: AccessOp, w: u32, n: u32) -> Option<Instruction>
+pub(crate) fn access(op: AccessOp, w: u32, n: u32) -> Option<Instruction>
     ensures { λ r. ⌜ r ≡ Some (Instruction.Plain (Operation.Access op (w / 2097152 % 32) (w / 65536 % 32) n)) ⌝ }
 {
     act(Operation::Access {

@@ -7,7 +7,7 @@ ghost use Rattle.table.specs.Table.{to-field, from-field};
 use isa::rule::Rule;
 
 // The field that a rule gives a constant, if the constant can be had back from it.
-pub fn field(rule: Rule, n: u32) -> Option<u32>
+pub(crate) fn field(rule: Rule, n: u32) -> Option<u32>
     ensures { λ r. ⌜ Cases r (eqb (from-field rule (to-field rule n)) n ≡ false) (λ v. (eqb (from-field rule (to-field rule n)) n ≡ true) × (v ≡ to-field rule n)) ⌝ }
 {
     match rule {

@@ -7,7 +7,7 @@ ghost use Rattle.table.specs.Encode.{held};
 use crate::fields::field;
 use isa::rule::Rule;
 
-pub fn long_zxy(w: u32, z: u8, x: u8, y: u8) -> Option<u32>
+pub(crate) fn long_zxy(w: u32, z: u8, x: u8, y: u8) -> Option<u32>
     requires { ⌜ w < 0xf0000000 ⌝ }
     ensures { λ r. ⌜ r ≡ held (row long-zxy w) z x y 0 ⌝ }
 {
@@ -18,7 +18,7 @@ pub fn long_zxy(w: u32, z: u8, x: u8, y: u8) -> Option<u32>
     }
 }
 
-pub fn long_zx_v5(w: u32, z: u8, x: u8, n: u32) -> Option<u32>
+pub(crate) fn long_zx_v5(w: u32, z: u8, x: u8, n: u32) -> Option<u32>
     requires { ⌜ w < 0xf0000000 ⌝ }
     ensures { λ r. ⌜ r ≡ held (row long-zx-v5 w) z x 0 n ⌝ }
 {
@@ -29,7 +29,7 @@ pub fn long_zx_v5(w: u32, z: u8, x: u8, n: u32) -> Option<u32>
     }
 }
 
-pub fn long_x_v5(w: u32, x: u8, n: u32) -> Option<u32>
+pub(crate) fn long_x_v5(w: u32, x: u8, n: u32) -> Option<u32>
     requires { ⌜ w < 0xf0000000 ⌝ }
     ensures { λ r. ⌜ r ≡ held (row long-x-v5 w) 0 x 0 n ⌝ }
 {
@@ -40,7 +40,7 @@ pub fn long_x_v5(w: u32, x: u8, n: u32) -> Option<u32>
     }
 }
 
-pub fn long_zx_v12(w: u32, rule: Rule, z: u8, x: u8, n: u32) -> Option<u32>
+pub(crate) fn long_zx_v12(w: u32, rule: Rule, z: u8, x: u8, n: u32) -> Option<u32>
     requires { ⌜ w < 0xf0000000 ⌝ }
     ensures { λ r. ⌜ r ≡ held (row-by rule long-zx-v12 w) z x 0 n ⌝ }
 {
@@ -52,7 +52,7 @@ pub fn long_zx_v12(w: u32, rule: Rule, z: u8, x: u8, n: u32) -> Option<u32>
     }
 }
 
-pub fn long_z_v16(w: u32, z: u8, n: u32) -> Option<u32>
+pub(crate) fn long_z_v16(w: u32, z: u8, n: u32) -> Option<u32>
     requires { ⌜ w < 0xf0000000 ⌝ }
     ensures { λ r. ⌜ r ≡ held (row long-z-v16 w) z 0 0 n ⌝ }
 {
@@ -63,7 +63,7 @@ pub fn long_z_v16(w: u32, z: u8, n: u32) -> Option<u32>
     }
 }
 
-pub fn long_x_v16(w: u32, rule: Rule, x: u8, n: u32) -> Option<u32>
+pub(crate) fn long_x_v16(w: u32, rule: Rule, x: u8, n: u32) -> Option<u32>
     requires { ⌜ w < 0xf0000000 ⌝ }
     ensures { λ r. ⌜ r ≡ held (row-by rule long-x-v16 w) 0 x 0 n ⌝ }
 {

@@ -7,7 +7,7 @@ ghost use Rattle.table.specs.Encode.{held};
 use crate::fields::field;
 use isa::rule::Rule;
 
-pub fn low_zxy(w: u16, z: u8, x: u8, y: u8) -> Option<u16>
+pub(crate) fn low_zxy(w: u16, z: u8, x: u8, y: u8) -> Option<u16>
     requires { ⌜ w < 0xc000 ⌝ }
     ensures { λ r. ⌜ r ≡ held (row low-zxy w) z x y 0 ⌝ }
 {
@@ -18,7 +18,7 @@ pub fn low_zxy(w: u16, z: u8, x: u8, y: u8) -> Option<u16>
     }
 }
 
-pub fn low_zx_v3(w: u16, rule: Rule, z: u8, x: u8, n: u32) -> Option<u16>
+pub(crate) fn low_zx_v3(w: u16, rule: Rule, z: u8, x: u8, n: u32) -> Option<u16>
     requires { ⌜ w < 0xc000 ⌝ }
     ensures { λ r. ⌜ r ≡ held (row-by rule low-zx-v3 w) z x 0 n ⌝ }
 {
@@ -30,7 +30,7 @@ pub fn low_zx_v3(w: u16, rule: Rule, z: u8, x: u8, n: u32) -> Option<u16>
     }
 }
 
-pub fn low_zx_v5(w: u16, rule: Rule, z: u8, x: u8, n: u32) -> Option<u16>
+pub(crate) fn low_zx_v5(w: u16, rule: Rule, z: u8, x: u8, n: u32) -> Option<u16>
     requires { ⌜ w < 0xc000 ⌝ }
     ensures { λ r. ⌜ r ≡ held (row-by rule low-zx-v5 w) z x 0 n ⌝ }
 {
@@ -42,7 +42,7 @@ pub fn low_zx_v5(w: u16, rule: Rule, z: u8, x: u8, n: u32) -> Option<u16>
     }
 }
 
-pub fn low_z_v8(w: u16, z: u8, n: u32) -> Option<u16>
+pub(crate) fn low_z_v8(w: u16, z: u8, n: u32) -> Option<u16>
     requires { ⌜ w < 0xc000 ⌝ }
     ensures { λ r. ⌜ r ≡ held (row low-z-v8 w) z 0 0 n ⌝ }
 {
@@ -53,7 +53,7 @@ pub fn low_z_v8(w: u16, z: u8, n: u32) -> Option<u16>
     }
 }
 
-pub fn low_zz_v8(w: u16, rule: Rule, z: u8, x: u8, n: u32) -> Option<u16>
+pub(crate) fn low_zz_v8(w: u16, rule: Rule, z: u8, x: u8, n: u32) -> Option<u16>
     requires { ⌜ w < 0xc000 ⌝ }
     ensures { λ r. ⌜ r ≡ held (row-by rule low-zz-v8 w) z x 0 n ⌝ }
 {
@@ -65,7 +65,7 @@ pub fn low_zz_v8(w: u16, rule: Rule, z: u8, x: u8, n: u32) -> Option<u16>
     }
 }
 
-pub fn low_z_r14_v8(w: u16, rule: Rule, z: u8, x: u8, n: u32) -> Option<u16>
+pub(crate) fn low_z_r14_v8(w: u16, rule: Rule, z: u8, x: u8, n: u32) -> Option<u16>
     requires { ⌜ w < 0xc000 ⌝ }
     ensures { λ r. ⌜ r ≡ held (row-by rule low-z-r14-v8 w) z x 0 n ⌝ }
 {
@@ -77,7 +77,7 @@ pub fn low_z_r14_v8(w: u16, rule: Rule, z: u8, x: u8, n: u32) -> Option<u16>
     }
 }
 
-pub fn low_z_r14_v3_v5(w: u16, rule: Rule, z: u8, x: u8, n: u32) -> Option<u16>
+pub(crate) fn low_z_r14_v3_v5(w: u16, rule: Rule, z: u8, x: u8, n: u32) -> Option<u16>
     requires { ⌜ w < 0xc000 ⌝ }
     ensures { λ r. ⌜ r ≡ held (row-by rule low-z-r14-v3-v5 w) z x 0 n ⌝ }
 {
@@ -89,7 +89,7 @@ pub fn low_z_r14_v3_v5(w: u16, rule: Rule, z: u8, x: u8, n: u32) -> Option<u16>
     }
 }
 
-pub fn r14_r14_v2_v5(w: u16, rule: Rule, z: u8, x: u8, n: u32) -> Option<u16>
+pub(crate) fn r14_r14_v2_v5(w: u16, rule: Rule, z: u8, x: u8, n: u32) -> Option<u16>
     requires { ⌜ w < 0xc000 ⌝ }
     ensures { λ r. ⌜ r ≡ held (row-by rule r14-r14-v2-v5 w) z x 0 n ⌝ }
 {
@@ -101,7 +101,7 @@ pub fn r14_r14_v2_v5(w: u16, rule: Rule, z: u8, x: u8, n: u32) -> Option<u16>
     }
 }
 
-pub fn low_x_v5(w: u16, rule: Rule, x: u8, n: u32) -> Option<u16>
+pub(crate) fn low_x_v5(w: u16, rule: Rule, x: u8, n: u32) -> Option<u16>
     requires { ⌜ w < 0xc000 ⌝ }
     ensures { λ r. ⌜ r ≡ held (row-by rule low-x-v5 w) 0 x 0 n ⌝ }
 {
@@ -113,7 +113,7 @@ pub fn low_x_v5(w: u16, rule: Rule, x: u8, n: u32) -> Option<u16>
     }
 }
 
-pub fn low_zz_v5(w: u16, z: u8, x: u8, n: u32) -> Option<u16>
+pub(crate) fn low_zz_v5(w: u16, z: u8, x: u8, n: u32) -> Option<u16>
     requires { ⌜ w < 0xc000 ⌝ }
     ensures { λ r. ⌜ r ≡ held (row low-zz-v5 w) z x 0 n ⌝ }
 {
@@ -124,7 +124,7 @@ pub fn low_zz_v5(w: u16, z: u8, x: u8, n: u32) -> Option<u16>
     }
 }
 
-pub fn zz_y(w: u16, z: u8, x: u8, y: u8) -> Option<u16>
+pub(crate) fn zz_y(w: u16, z: u8, x: u8, y: u8) -> Option<u16>
     requires { ⌜ w < 0xc000 ⌝ }
     ensures { λ r. ⌜ r ≡ held (row zz-y w) z x y 0 ⌝ }
 {
@@ -135,7 +135,7 @@ pub fn zz_y(w: u16, z: u8, x: u8, y: u8) -> Option<u16>
     }
 }
 
-pub fn z_x(w: u16, z: u8, x: u8) -> Option<u16>
+pub(crate) fn z_x(w: u16, z: u8, x: u8) -> Option<u16>
     requires { ⌜ w < 0xc000 ⌝ }
     ensures { λ r. ⌜ r ≡ held (row z-x w) z x 0 0 ⌝ }
 {
@@ -146,7 +146,7 @@ pub fn z_x(w: u16, z: u8, x: u8) -> Option<u16>
     }
 }
 
-pub fn y_x(w: u16, x: u8, y: u8) -> Option<u16>
+pub(crate) fn y_x(w: u16, x: u8, y: u8) -> Option<u16>
     requires { ⌜ w < 0xc000 ⌝ }
     ensures { λ r. ⌜ r ≡ held (row y-x w) 0 x y 0 ⌝ }
 {
@@ -157,7 +157,7 @@ pub fn y_x(w: u16, x: u8, y: u8) -> Option<u16>
     }
 }
 
-pub fn x_alone(w: u16, x: u8) -> Option<u16>
+pub(crate) fn x_alone(w: u16, x: u8) -> Option<u16>
     requires { ⌜ w < 0xc000 ⌝ }
     ensures { λ r. ⌜ r ≡ held (row x-alone w) 0 x 0 0 ⌝ }
 {

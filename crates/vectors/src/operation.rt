@@ -70,7 +70,12 @@ pub(crate) fn operation(name: &str, a: u32, b: u32, c: u32) -> Option<Operation>
             x: 15,
         });
     }
-    let parts = match mnemonic(name)? {
+    parts(mnemonic(name)?, a, b, c)
+}
+
+// The parts of an operation, as its group has them.
+fn parts(mnemonic: Mnemonic, a: u32, b: u32, c: u32) -> Option<Operation> {
+    let operation = match mnemonic {
         Mnemonic::Register(op) => Operation::Register {
             op,
             z: register(a)?,
@@ -115,5 +120,5 @@ pub(crate) fn operation(name: &str, a: u32, b: u32, c: u32) -> Option<Operation>
         Mnemonic::Bkpt => Operation::Bkpt,
         Mnemonic::Relative(_) => return None,
     };
-    Some(parts)
+    Some(operation)
 }

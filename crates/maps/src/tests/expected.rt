@@ -52,7 +52,7 @@ fn behaves<M: Memory>(memory: &mut M, expected: Expected) -> bool {
         && same_cell(after, left)
 }
 
-pub fn all_behave<M: Memory>(memory: &mut M, expected: &[Expected]) -> Result<(), Fail> {
+pub(crate) fn all_behave<M: Memory>(memory: &mut M, expected: &[Expected]) -> Result<(), Fail> {
     for (i, one) in expected.iter().enumerate() {
         if !behaves(memory, *one) {
             return Err(Fail::new(i));
