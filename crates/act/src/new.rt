@@ -1,8 +1,7 @@
 // Acts from their parts, and from the decoder.
 ghost use mathlib.Core.Path.{_≡_};
 ghost use mathlib.Core.Bool.{true, false};
-ghost use Rattle.isa.specs.Normal.{is-normal};
-ghost use Rattle.table.specs.Encode.{is-act};
+ghost use Rattle.table.specs.Encode.{has-form};
 ghost use Rattle.act.specs.Made.{Made, Decoded, decoded-form};
 use crate::act::Act;
 use decoder::halfword::decode_halfword;
@@ -14,15 +13,11 @@ use isa::operation::Instruction;
 use isa::operation::Operation;
 use refusal::refusal::Refusal;
 
-// Some form spells a normal operation.
+// The operation has a short form or a long one.
 fn has_form(operation: Operation) -> bool
-    requires { ⌜ is-normal operation ≡ true ⌝ }
-    ensures { λ r. ⌜ r ≡ is-act operation ⌝ }
+    ensures { λ r. ⌜ r ≡ has-form operation ⌝ }
 {
-    if short_form(operation).is_some() {
-        return true;
-    }
-    long_form(operation).is_some()
+    short_form(operation).is_some() || long_form(operation).is_some()
 }
 
 // What a form spells.

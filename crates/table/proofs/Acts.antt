@@ -5,7 +5,7 @@ use mathlib.Core.Logic.{_⊎_, inl, inr, ⊎-elim}
 use Prim.Native.Nat.{ℕ, _≤_}
 use native.Mathlib.Omega.{arith}
 use lib.IntN.{ℤ}
-use Rattle.std.proofs.shelf.Tests.{and-parts, and-from, and-left, or-left, or-right, or-cases, false≢true}
+use Rattle.std.proofs.shelf.Tests.{and-parts, and-from, and-right, or-left, or-right, false≢true}
 use Rattle.std.specs.Options.{isSome}
 use Rattle.std.specs.declared.option.Option.{Option}
 use Rattle.std.specs.declared.option.Option.the-variants.{Some, None}
@@ -19,7 +19,7 @@ use Rattle.isa.specs.Normal.{is-normal}
 use Rattle.isa.specs.Bytes.{size}
 use Rattle.table.specs.Diagram.{Size, short, long}
 use Rattle.table.specs.Decode.{Spells, decode}
-use Rattle.table.specs.Encode.{form-of, is-act, branch-form, least, used, used-branch}
+use Rattle.table.specs.Encode.{form-of, has-form, is-act, branch-form, least, used, used-branch}
 use Rattle.table.specs.Laws.{Forms-of-acts, Acts-have-forms, Spelled, Least, Uses-least}
 use Rattle.table.proofs.Rows.{form-spells, none-some}
 use Rattle.table.proofs.Decoding.{decodes-exactly}
@@ -81,15 +81,11 @@ uses-least = record {
   branch = λ b d f e. chosen-least (Relative b d) (branch-form short b d) (branch-form long b d) f (forms-of-branches short .form b d) (forms-of-branches long .form b d) (λ h n i. none-some h (sym n ∙ forms-of-branches short .only b d h i)) e;
 }
 
--- the test of an act, one part after the other
-pub not-normal : (o : Operation) → is-normal o ≡ false → is-act o ≡ false
+-- a normal operation is an act exactly when it has a form
+pub with-form : (o : Operation) → is-normal o ≡ true → has-form o ≡ true → is-act o ≡ true
 unfolding is-act
-not-normal o p = and-left _ _ p
+with-form o p f = and-from _ _ p f
 
-pub by-short : (o : Operation) → is-normal o ≡ true → isSome (form-of short o) ≡ true → is-act o ≡ true
+pub without-form : (o : Operation) → has-form o ≡ false → is-act o ≡ false
 unfolding is-act
-by-short o p s = and-from _ _ p (or-left _ _ s)
-
-pub by-long : (o : Operation) (r : Bool) → is-normal o ≡ true → isSome (form-of short o) ≡ false → r ≡ isSome (form-of long o) → r ≡ is-act o
-unfolding is-act
-by-long o r p s l = l ∙ sym ((λ i. p i && (s i || isSome (form-of long o))))
+without-form o f = and-right (is-normal o) (has-form o) f

@@ -69,9 +69,12 @@ first c (r ∷ rs) z x y n = cond (holds r z x y n) (Some (form r z x y n)) (con
 abbrev pub form-of : Size → Operation → Option ℕ
 form-of s o = first (exchanges o) (sized-rows s (rows o)) (operand o reg-z) (operand o reg-x) (operand o reg-y) (operand o number)
 
+abbrev pub has-form : Operation → Bool
+has-form o = isSome (form-of short o) || isSome (form-of long o)
+
 -- the operation is normal, and has a form
 unfoldable pub is-act : Operation → Bool
-is-act o = is-normal o && (isSome (form-of short o) || isSome (form-of long o))
+is-act o = is-normal o && has-form o
 
 -- a number from -m to below m, modulo f
 abbrev pub complement : ℕ → ℕ → ℤ → Option ℕ
