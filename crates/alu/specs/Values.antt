@@ -34,6 +34,7 @@ carry-in c = cond c 1 0
 abbrev pub lsl : ℕ → ℕ → ℕ
 lsl x k = cond (ltb k 32) (x * 2 ^ k % 2 ^ 32) 0
 
+-- shifted down, zeros from above
 abbrev pub lsr : ℕ → ℕ → ℕ
 lsr x k = cond (ltb k 32) (x / 2 ^ k) 0
 
@@ -45,6 +46,7 @@ asr x k = cond (ltb k 32) (cond (ltb x (2 ^ 31)) (x / 2 ^ k) (x / 2 ^ k + (2 ^ 3
 abbrev pub rotl : ℕ → ℕ → ℕ
 rotl x k = cond (ltb k 32) (x * 2 ^ k % 2 ^ 32 + x / 2 ^ (32 - k)) 0
 
+-- the whole sum, carry in included
 abbrev pub sum : ℕ → ℕ → Bool → ℕ
 sum x y c = x + y + carry-in c
 
@@ -112,6 +114,7 @@ constant-result Movih n = n * 2 ^ 16 % 2 ^ 32
 abbrev pub extended-byte : ℕ → ℕ
 extended-byte b = cond (ltb b (2 ^ 7)) b (b + (2 ^ 32 - 2 ^ 8))
 
+-- a halfword, likewise
 abbrev pub extended-halfword : ℕ → ℕ
 extended-halfword h = cond (ltb h (2 ^ 15)) h (h + (2 ^ 32 - 2 ^ 16))
 

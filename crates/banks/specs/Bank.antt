@@ -10,5 +10,6 @@ use Rattle.std.specs.Of.Vec.{vec-items}
 abbrev pub banked : ℕ → List ℕ → Meaning
 banked = bytes-at Writable 1
 
+-- what a bank means
 abbrev pub bank-meaning : Bank → Meaning
 bank-meaning bank = banked (bank .base) (vec-items (bank .bytes))

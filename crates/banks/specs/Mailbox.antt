@@ -9,5 +9,6 @@ use Rattle.banks.specs.declared.mailbox.Mailbox.{Mailbox}
 abbrev pub boxed : ℕ → List ℕ → Meaning
 boxed = bytes-at Writable 3
 
+-- what a mailbox means
 abbrev pub mailbox-meaning : Mailbox → Meaning
 mailbox-meaning mailbox = boxed (mailbox .base) (mailbox .bytes)

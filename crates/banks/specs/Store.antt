@@ -10,5 +10,6 @@ use Rattle.std.specs.Of.Vec.{vec-items}
 abbrev pub stored : ℕ → List ℕ → Meaning
 stored = bytes-at (λ byte. ReadOnly byte 2) 2
 
+-- what a store means
 abbrev pub store-meaning : Store → Meaning
 store-meaning store = stored (store .base) (vec-items (store .bytes))

@@ -39,14 +39,17 @@ abbrev pub restored-if : Option Refusal → List ℕ → ℕ → ℕ → ℕ →
 restored-if None code i low high = restored code i low high
 restored-if (Some q) code i low high = code
 
+-- the code under a patch that is set, or was refused
 abbrev pub patched-if : Result ℕ Refusal → List ℕ → List ℕ
 patched-if (Ok i) code = patched code i
 patched-if (Err q) code = code
 
+-- the refusal, if there is one
 abbrev pub err-part : Result ℕ Refusal → Option Refusal
 err-part (Ok i) = None
 err-part (Err q) = Some q
 
+-- whether a patch with this refusal, or none, is set
 abbrev pub ready : Option Refusal → Result (Unit {0}) Refusal
 ready None = Ok tt
 ready (Some q) = Err q
@@ -56,5 +59,6 @@ abbrev pub run-at : Result ℕ Refusal → List ℕ → ℕ → CoreState → Ru
 run-at (Ok i) code budget s = run-of (patched code i) budget s
 run-at (Err q) code budget s = ran (stopped 0 q) s
 
+-- a run up to an address
 abbrev pub run-to-of : List ℕ → ℕ → ℕ → CoreState → Run CoreState
 run-to-of code a budget s = run-at (patch-index (s .base) (s .size) code a) code budget s

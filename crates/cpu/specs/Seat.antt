@@ -22,6 +22,7 @@ seat-refusal base code start =
     (cond (ltb (base + length code) (2 ^ 32)) None (Some NoRoom))
     (Some InvalidArgument)
 
+-- a core is made exactly where nothing refuses it, and holds what it was given
 abbrev pub Seats : Registers → ℕ → List ℕ → ℕ → Result Core Refusal → Type 0
 Seats rs base code start (Ok c) =
     (seat-refusal base code start ≡ None) × (c .registers ≡ rs) × (c .pc ≡ start) × (c .base ≡ base) × (c .length ≡ length code)

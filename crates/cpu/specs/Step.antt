@@ -29,6 +29,7 @@ pub record CoreState : Type 0 where
   pub size : ℕ
   pub memory : Meaning
 
+-- the state of a core over a memory
 abbrev pub core-state : Core → Meaning → CoreState
 core-state c m = record { registers = c .registers; pc = c .pc; base = c .base; size = c .length; memory = m }
 
@@ -47,9 +48,11 @@ placed pc (Err q) = Err (cond (eqb (number q) 16) (UnknownInstruction pc) (NoIns
 abbrev pub fetched : ℕ → ℕ → List ℕ → Result (Instruction × ℕ) Refusal
 fetched base pc code = cond (ltb pc base) (Err (NoInstruction pc)) (placed pc (decoded (drop (pc - base) code)))
 
+-- the same core with other registers, PC and memory
 abbrev pub moved : CoreState → Registers → ℕ → Meaning → CoreState
 moved s r p m = record { registers = r; pc = p; base = s .base; size = s .size; memory = m }
 
+-- a step that did an operation, or was refused by its trap
 abbrev pub acted : CoreState → Result (ℕ × State) Trap → Outcome CoreState
 acted s (Err t) = refused (trapped-at (s .pc) t)
 acted s (Ok (p, t)) = done (moved s (t .registers) p (t .memory))

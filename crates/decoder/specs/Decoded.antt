@@ -27,6 +27,7 @@ pub record Front : Type 0 where
 abbrev pub too-few : Result Front Refusal
 too-few = Err (NoInstruction 0)
 
+-- an instruction that was found, or a word in no row
 abbrev pub known : Option Instruction → ℕ → List ℕ → Result Front Refusal
 known None n bytes = Err (UnknownInstruction 0)
 known (Some i) n bytes = Ok (record { instruction = i; length = n; rest = bytes })

@@ -16,6 +16,7 @@ use Rattle.std.specs.declared.result.Result.{Result}
 use Rattle.std.specs.declared.result.Result.the-variants.{Ok, Err}
 use Rattle.alu.specs.Values.{extended-byte, extended-halfword}
 
+-- how many bytes an access takes
 abbrev pub width-of : AccessOp → Width
 width-of LdB = Byte
 width-of LdH = Halfword
@@ -26,6 +27,7 @@ width-of StB = Byte
 width-of StH = Halfword
 width-of StW = Word
 
+-- a store, not a load
 abbrev pub is-store : AccessOp → Bool
 is-store LdB = false
 is-store LdH = false
@@ -57,12 +59,15 @@ abbrev pub and-then : {S T : Type 0} → Result S Trap → (S → Result T Trap)
 and-then (Ok x) f = f x
 and-then (Err q) f = Err q
 
+-- the byte at an address, or its fault
 abbrev pub byte-at : Meaning → ℕ → Result ℕ Trap
 byte-at m a = at-address a (on-read (m a))
 
+-- two bytes, the low one first
 abbrev pub halfword-at : Meaning → ℕ → Result ℕ Trap
 halfword-at m a = and-then (byte-at m a) (λ low. and-then (byte-at m (a + 1)) (λ high. Ok (low + 256 * high)))
 
+-- two halfwords, the low one first
 abbrev pub word-at : Meaning → ℕ → Result ℕ Trap
 word-at m a = and-then (halfword-at m a) (λ low. and-then (halfword-at m (a + 2)) (λ high. Ok (low + 65536 * high)))
 
@@ -72,12 +77,15 @@ load Byte m a = byte-at m a
 load Halfword m a = cond (eqb (a % 2) 0) (halfword-at m a) (Err (trap.Misaligned a))
 load Word m a = cond (eqb (a % 4) 0) (word-at m a) (Err (trap.Misaligned a))
 
+-- whether a byte may be written
 abbrev pub byte-writable : Meaning → ℕ → Result (Unit {0}) Trap
 byte-writable m a = at-address a (on-write (m a))
 
+-- both of two bytes, the lower asked first
 abbrev pub halfword-writable : Meaning → ℕ → Result (Unit {0}) Trap
 halfword-writable m a = and-then (byte-writable m a) (λ _. byte-writable m (a + 1))
 
+-- all of four bytes, the lowest asked first
 abbrev pub word-writable : Meaning → ℕ → Result (Unit {0}) Trap
 word-writable m a = and-then (halfword-writable m a) (λ _. halfword-writable m (a + 2))
 
@@ -87,9 +95,11 @@ writable Byte m a = byte-writable m a
 writable Halfword m a = cond (eqb (a % 2) 0) (halfword-writable m a) (Err (trap.Misaligned a))
 writable Word m a = cond (eqb (a % 4) 0) (word-writable m a) (Err (trap.Misaligned a))
 
+-- two bytes written
 abbrev pub halfword-written : Meaning → ℕ → ℕ → Meaning
 halfword-written m a v = written (written m a (v % 256)) (a + 1) (v / 256)
 
+-- four bytes written
 abbrev pub word-written : Meaning → ℕ → ℕ → Meaning
 word-written m a v = halfword-written (halfword-written m a (v % 65536)) (a + 2) (v / 65536)
 
@@ -104,6 +114,7 @@ abbrev pub stored-if : Result (Unit {0}) Trap → Width → Meaning → ℕ → 
 stored-if (Ok x) s m a v = stored s m a v
 stored-if (Err q) s m a v = m
 
+-- the address is a multiple of the width
 abbrev pub Aligned : Width → ℕ → Type 0
 Aligned Byte a = Unit {0}
 Aligned Halfword a = a % 2 ≡ 0

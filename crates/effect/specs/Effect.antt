@@ -27,6 +27,7 @@ pub data Effect : Type 0 where
   continues : List ℕ → Bool → Meaning → Effect
   jumps : ℕ → List ℕ → Effect
 
+-- a register by number; a number past the last reads as 0
 abbrev pub reg : List ℕ → ℕ → ℕ
 reg rs x = getD rs x 0
 
@@ -73,6 +74,7 @@ taken Bt c = c
 taken Bf c = not c
 taken Bsr c = true
 
+-- the registers after a branch
 abbrev pub called : Branch → ℕ → List ℕ → List ℕ
 called Br next rs = rs
 called Bt next rs = rs
@@ -84,9 +86,11 @@ pub record State : Type 0 where
   pub registers : Registers
   pub memory : Meaning
 
+-- a state by its parts
 abbrev pub state : Registers → Meaning → State
 state r m = record { registers = r; memory = m }
 
+-- registers by their parts
 abbrev pub file : List ℕ → Bool → Registers
 file rs c = record { words = rs; carry = c }
 
@@ -96,9 +100,11 @@ outcome next s (refuses t) = Err t
 outcome next s (continues rs c m) = Ok (next, state (file rs c) m)
 outcome next s (jumps a rs) = Ok (a, state (file rs (s .registers .carry)) (s .memory))
 
+-- what an operation does to a state
 abbrev pub effect-on : Operation → ℕ → State → Effect
 effect-on o next s = effect o next (s .registers .words) (s .registers .carry) (s .memory)
 
+-- the same, open to proofs
 abbrev pub does-to : Operation → ℕ → State → Effect
 does-to o next s = does o next (s .registers .words) (s .registers .carry) (s .memory)
 
@@ -107,6 +113,7 @@ abbrev pub Ends : Result (ℕ × State) Trap → State → Result ℕ Trap → S
 Ends o s (Ok pc) t = o ≡ Ok (pc, t)
 Ends o s (Err q) t = (o ≡ Err q) × (t ≡ s)
 
+-- a transfer's answer as that of an operation
 abbrev pub answered : Result (Unit {0}) Trap → Result ℕ Trap
 answered (Ok x) = Ok 0
 answered (Err t) = Err t
@@ -115,6 +122,7 @@ answered (Err t) = Err t
 abbrev pub goes-to : Branch → ℕ → ℤ → ℕ → Bool → ℕ
 goes-to b pc halfwords next c = cond (taken b c) (target pc halfwords) next
 
+-- the PC that is answered is even
 abbrev pub Even : Result ℕ Trap → Type 0
 Even (Ok pc) = pc % 2 ≡ 0
 Even (Err t) = Unit {0}

@@ -22,9 +22,11 @@ two None l = None
 two (Some h) None = None
 two (Some h) (Some l) = Some (h * 16 + l)
 
+-- the byte of two digits in the text
 abbrev pub byte-of : ℕ → ℕ → Option ℕ
 byte-of h l = two (digit h) (digit l)
 
+-- the number of four bytes, the highest first
 abbrev pub four : Option ℕ → Option ℕ → Option ℕ → Option ℕ → Option ℕ
 four None b c d = None
 four (Some a) None c d = None
@@ -43,6 +45,7 @@ eight t =
 abbrev pub ends-line : List ℕ → Bool
 ends-line t = leb (length t) 13 || eqb (getD t 13 0) 10
 
+-- a base has to end its line and be even
 abbrev pub chosen : Option ℕ → Bool → Result (ℕ × ℕ) Cause
 chosen None e = Err NoBase
 chosen (Some b) e = cond e (cond (eqb (b % 2) 0) (Ok (b, 13)) (Err OddBase)) (Err NoBase)

@@ -9,6 +9,7 @@ use Rattle.image.specs.declared.digit.Turn.{Turn}
 use Rattle.image.specs.declared.digit.Turn.the-variants.{Gap, High, Byte, Wrong}
 use Rattle.image.specs.declared.trouble.Cause.the-variants.{BadDigit, HalfByte}
 
+-- within a range
 abbrev pub between : ℕ → ℕ → ℕ → Bool
 between lo hi b = leb lo b && leb b hi
 
@@ -27,5 +28,6 @@ turn None (Some d) g = High d
 turn (Some h) None g = cond g (Wrong HalfByte) (Wrong BadDigit)
 turn (Some h) (Some d) g = Byte (bitOr (h * 16 % 256) d)
 
+-- what a byte of the text does
 abbrev pub next : Option ℕ → ℕ → Turn
 next high b = turn high (digit b) (gap b)

@@ -9,6 +9,7 @@ use Rattle.image.specs.declared.digit.Turn.the-variants.{Gap, High, Byte, Wron
 use Rattle.image.specs.declared.trouble.Cause.{Cause}
 use Rattle.image.specs.declared.trouble.Cause.the-variants.{HalfByte}
 
+-- the bytes that are spelled, or a cause and its index
 pub data Reading : Type 0 where
   spells : List ℕ → Reading
   fails : Cause → ℕ → Reading

@@ -27,10 +27,12 @@ abbrev pub based : ℕ → Reading → Meaning
 based b (fails c i) = trouble c i
 based b (spells bs) = cond (ltb (b + length bs) (2 ^ 32)) (image b bs) (trouble PastTheEnd 5)
 
+-- the bytes begin where the base line ends
 abbrev pub from-base : Result (ℕ × ℕ) Cause → List ℕ → Meaning
 from-base (Err c) text = trouble c 5
 from-base (Ok (b, n)) text = based b (hex None n (drop n text))
 
+-- the image that a text spells
 abbrev pub image-of : List ℕ → Meaning
 image-of text = from-base (base-of text) text
 

@@ -15,5 +15,6 @@ past (l, c) b = cond (eqb b 10) (l + 1, 1) (l, c + 1)
 abbrev pub place-of : List ℕ → ℕ × ℕ
 place-of bs = folded past (1, 1) bs
 
+-- a cause at a line and a column
 abbrev pub trouble-at : Cause → ℕ × ℕ → Trouble
 trouble-at c (l, k) = record { cause = c; line = l; column = k }

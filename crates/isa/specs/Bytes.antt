@@ -18,6 +18,7 @@ abbrev pub image : Form → List ℕ
 image (Short h) = h % 256 ∷ h / 256 ∷ []
 image (Long w) = w / 65536 % 256 ∷ w / 16777216 ∷ w % 256 ∷ w / 256 % 256 ∷ []
 
+-- how many bytes a form takes
 abbrev pub size : Form → ℕ
 size (Short h) = 2
 size (Long w) = 4

@@ -20,6 +20,7 @@ pub record Locks (start length : ℕ) (below lock : Meaning) : Type 0 where
   -- and each byte that is there is read-only by the lock, whether or not it can be written below
   pub present : (address byte : ℕ) → start ≤ address → address < start + length → on-read (below address) ≡ Ok byte → lock address ≡ ReadOnly byte 4
 
+-- every lock, over every memory
 abbrev pub Lock-law : Type 0
 Lock-law = (start length : ℕ) (below : Meaning) → Locks start length below (locked-range start length below)
 
@@ -28,5 +29,6 @@ pub record Splits (border : ℕ) (first second split : Meaning) : Type 0 where
   pub below : (address : ℕ) → address < border → split address ≡ first address
   pub above : (address : ℕ) → border ≤ address → split address ≡ second address
 
+-- every split, of any two memories
 abbrev pub Split-law : Type 0
 Split-law = (border : ℕ) (first second : Meaning) → Splits border first second (split-at border first second)

@@ -24,6 +24,7 @@ pub data Permission : Type 0 where
   read-only : ℕ → Permission
   writable : Permission
 
+-- what a cell allows
 abbrev pub permission : Cell → Permission
 permission (cell.Absent part) = absent part
 permission (cell.ReadOnly byte part) = read-only part

@@ -7,6 +7,7 @@ use Rattle.refusal.specs.declared.fault.Fault.{Fault}
 use Rattle.refusal.specs.declared.fault.Fault.the-variants as fault
 use Rattle.refusal.specs.declared.place.Place.{Place}
 
+-- the number of each cause
 abbrev pub number : Refusal → ℕ
 number LineTooLong = 1
 number (BadByte column) = 2
@@ -61,5 +62,6 @@ abbrev pub refused-at : Fault → ℕ → ℕ → Refusal
 refused-at (fault.Absent part) pc address = refusal.Absent pc address part
 refused-at (fault.ReadOnly part) pc address = refusal.ReadOnly pc address part
 
+-- a fault has the number of the refusal that it leads to
 abbrev pub fault-number : Fault → ℕ
 fault-number f = number (refused-at f 0 0)

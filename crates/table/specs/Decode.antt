@@ -66,21 +66,26 @@ bkpt r z x y n = Plain Bkpt
 abbrev pub signed : ℕ → ℕ → ℤ
 signed k n = cond (ltb n (2 ^ (k - 1))) (pos n) (pos n -ℤ pos (2 ^ k))
 
+-- a branch by its field
 abbrev pub relative : Branch → Row → Reading
 relative b r z x y n = Relative b (signed (width number (rest (r .layout))) n)
 
+-- a row, and what its operands say
 pub record Entry : Type 0 where
   pub line : Row
   pub reading : Reading
 
+-- the entries of one operation
 abbrev pub lines : (Row → Reading) → List Row → List Entry
 lines f [] = []
 lines f (r ∷ rs) = record { line = r; reading = f r } ∷ lines f rs
 
+-- the entries of a group of operations
 abbrev pub each : {O : Type 0} → (O → Row → Reading) → (O → List Row) → List O → List Entry
 each f rows [] = []
 each f rows (o ∷ os) = lines (f o) (rows o) ++ each f rows os
 
+-- every operation of each group, in the table's order
 abbrev pub register-ops : List RegisterOp
 register-ops = Addu ∷ Addc ∷ Subu ∷ And ∷ Andn ∷ Or ∷ Lsl ∷ Lsr ∷ Asr ∷ Rotl ∷ Mult ∷ Ixh ∷ Ixw ∷ []
 
@@ -105,6 +110,7 @@ jump-ops = Jmp ∷ Jsr ∷ []
 abbrev pub branches : List Branch
 branches = Br ∷ Bt ∷ Bf ∷ Bsr ∷ []
 
+-- the entries by group
 abbrev pub sections : List (List Entry)
 sections =
     each register register-rows register-ops ∷
@@ -119,10 +125,12 @@ sections =
     each relative branch-rows branches ∷
     []
 
+-- the sections one after another
 abbrev pub joined : List (List Entry) → List Entry
 joined [] = []
 joined (s ∷ ss) = s ++ joined ss
 
+-- all entries
 abbrev pub table : List Entry
 table = joined sections
 
@@ -135,6 +143,7 @@ sized s (e ∷ es) = cond (has-size s (e .line .layout)) (e ∷ sized s es) (siz
 abbrev pub holds : Row → ℕ → ℕ → ℕ → ℕ → Bool
 holds r z x y n = eqb (from-field (r .rule) (to-field (r .rule) n)) n && fits (r .layout) z x y (to-field (r .rule) n)
 
+-- the form in which a row holds the operands
 abbrev pub form : Row → ℕ → ℕ → ℕ → ℕ → ℕ
 form r z x y n = r .word + place (rest (r .layout)) (operands z x y (to-field (r .rule) n))
 
@@ -142,10 +151,12 @@ form r z x y n = r .word + place (rest (r .layout)) (operands z x y (to-field (r
 abbrev pub By : Entry → Instruction → ℕ → Type 0
 By e i h = (z : ℕ) × (x : ℕ) × (y : ℕ) × (n : ℕ) × (holds (e .line) z x y n ≡ true) × (e .reading z x y n ≡ i) × (h ≡ form (e .line) z x y n)
 
+-- one of the entries has the property
 abbrev pub In : (Entry → Type 0) → List Entry → Type 0
 In P [] = ⊥
 In P (e ∷ es) = P e ⊎ In P es
 
+-- by one of the entries h spells i
 abbrev pub Among : List Entry → Instruction → ℕ → Type 0
 Among es i h = In (λ e. By e i h) es
 
@@ -157,6 +168,7 @@ Spells s i h = Among (sized s table) i h
 abbrev pub start : Row → ℕ
 start r = r .word / span (r .layout) * span (r .layout)
 
+-- h has the row's bits and lies in its range
 abbrev pub matches : Row → ℕ → Bool
 matches r h = agrees (rest (r .layout)) h (r .word) && (leb (start r) h && ltb h (start r + span (r .layout)))
 
@@ -164,6 +176,7 @@ matches r h = agrees (rest (r .layout)) h (r .word) && (leb (start r) h && ltb h
 abbrev pub meaning : Entry → ℕ → Instruction
 meaning e h = e .reading (z-of (e .line .layout .pins) (rest (e .line .layout)) h) (x-of (e .line .layout .pins) (rest (e .line .layout)) h) (taken reg-y (rest (e .line .layout)) h) (from-field (e .line .rule) (taken number (rest (e .line .layout)) h))
 
+-- the first entry that a form matches, read
 abbrev pub scan : List Entry → ℕ → Option Instruction
 scan [] h = None
 scan (e ∷ es) h = cond (matches (e .line) h) (Some (meaning e h)) (scan es h)
@@ -173,9 +186,11 @@ abbrev pub between : ℕ → ℕ → List Entry → List Entry
 between lo hi [] = []
 between lo hi (e ∷ es) = cond (leb (start (e .line) + span (e .line .layout)) lo || leb hi (start (e .line))) (between lo hi es) (e ∷ between lo hi es)
 
+-- the scan of the short entries in a range
 abbrev pub shorts : ℕ → ℕ → ℕ → Option Instruction
 shorts lo hi h = scan (between lo hi (sized short table)) h
 
+-- the scan of the long entries in a range
 abbrev pub longs : ℕ → ℕ → ℕ → Option Instruction
 longs lo hi w = scan (between lo hi (sized long table)) w
 

@@ -18,6 +18,7 @@ pub data Part : Type 0 where
   unused : ℕ → Part
   field : Operand → ℕ → Part
 
+-- the fields by name
 abbrev pub z : ℕ → Part
 z k = field reg-z k
 
@@ -42,6 +43,7 @@ pub record Layout : Type 0 where
   pub pins : Pins
   pub parts : List Part
 
+-- a layout by its parts
 abbrev pub layout : Pins → List Part → Layout
 layout p ps = record { pins = p; parts = ps }
 
@@ -62,16 +64,19 @@ bits (fixed k ∷ ps) = k + bits ps
 bits (unused k ∷ ps) = k + bits ps
 bits (field o k ∷ ps) = k + bits ps
 
+-- a layout of a halfword, or of a word
 abbrev pub has-size : Size → Layout → Bool
 has-size short l = leb (bits (l .parts)) 16
 has-size long l = ltb 16 (bits (l .parts))
 
+-- operands, told apart by number
 abbrev pub index : Operand → ℕ
 index reg-z = 0
 index reg-x = 1
 index reg-y = 2
 index number = 3
 
+-- the same operand
 abbrev pub is : Operand → Operand → Bool
 is o p = eqb (index o) (index p)
 
@@ -96,6 +101,7 @@ place (fixed k ∷ ps) g = place ps g
 place (unused k ∷ ps) g = place ps g
 place (field o k ∷ ps) g = slice (g o) (width o ps) k * 2 ^ bits ps + place ps g
 
+-- the two fields of an operand, put together
 abbrev pub join : ℕ → ℕ → ℕ → ℕ
 join high zero low = high
 join high (suc k) low = high * 2 ^ suc k + low
@@ -121,6 +127,7 @@ below (fixed k ∷ ps) = ps
 below (unused k ∷ ps) = unused k ∷ ps
 below (field o k ∷ ps) = field o k ∷ ps
 
+-- the parts that tell forms of one range apart
 abbrev pub rest : Layout → List Part
 rest l = below (l .parts)
 
@@ -146,6 +153,7 @@ z-of x-is-z ps h = taken reg-z ps h
 z-of x-is-r14 ps h = taken reg-z ps h
 z-of both-are-r14 ps h = 14
 
+-- likewise x
 abbrev pub x-of : Pins → List Part → ℕ → ℕ
 x-of free ps h = taken reg-x ps h
 x-of x-is-z ps h = taken reg-z ps h

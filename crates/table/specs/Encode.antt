@@ -18,6 +18,7 @@ use Rattle.table.specs.Table.{Row, register-rows, immediate-rows, test-rows, c
 use Rattle.isa.specs.Normal.{commutes, is-normal}
 use Rattle.table.specs.Decode.{holds, form}
 
+-- an operation's own rows
 abbrev pub rows : Operation → List Row
 rows (Register op z x y) = register-rows op
 rows (Immediate op z x n) = immediate-rows op
@@ -41,6 +42,7 @@ operand (Constant op z n) = operands z 0 0 n
 operand (Jump op x) = operands 0 x 0 0
 operand Bkpt = operands 0 0 0 0
 
+-- its sources may be exchanged
 abbrev pub exchanges : Operation → Bool
 exchanges (Register op z x y) = commutes op
 exchanges (Immediate op z x n) = false
@@ -52,6 +54,7 @@ exchanges (Constant op z n) = false
 exchanges (Jump op x) = false
 exchanges Bkpt = false
 
+-- the rows of short, or of long, forms
 abbrev pub sized-rows : Size → List Row → List Row
 sized-rows s [] = []
 sized-rows s (r ∷ rs) = cond (has-size s (r .layout)) (r ∷ sized-rows s rs) (sized-rows s rs)
@@ -69,6 +72,7 @@ first c (r ∷ rs) z x y n = cond (holds r z x y n) (Some (form r z x y n)) (con
 abbrev pub form-of : Size → Operation → Option ℕ
 form-of s o = first (exchanges o) (sized-rows s (rows o)) (operand o reg-z) (operand o reg-x) (operand o reg-y) (operand o number)
 
+-- a short form or a long one
 abbrev pub has-form : Operation → Bool
 has-form o = isSome (form-of short o) || isSome (form-of long o)
 
@@ -85,6 +89,7 @@ complement m f (negsuc n) = cond (ltb n m) (Some (f - suc n)) None
 abbrev pub field-of : ℕ → ℤ → Option ℕ
 field-of k d = complement (2 ^ (k - 1)) (2 ^ k) d
 
+-- the field below the table word
 abbrev pub plus : ℕ → Option ℕ → Option ℕ
 plus w None = None
 plus w (Some n) = Some (w + n)
@@ -108,5 +113,6 @@ least None (Some w) = Some (Long w)
 abbrev pub used : Operation → Option Form
 used o = least (form-of short o) (form-of long o)
 
+-- likewise of a branch
 abbrev pub used-branch : Branch → ℤ → Option Form
 used-branch b d = least (branch-form short b d) (branch-form long b d)

@@ -101,6 +101,7 @@ to-field LessOne n = n - 1
 to-field Half n = n / 2
 to-field Quarter n = n / 4
 
+-- the constant that a field stands for
 abbrev pub from-field : Rule → ℕ → ℕ
 from-field Plain n = n
 from-field LessOne n = n + 1
@@ -113,9 +114,11 @@ pub record Row : Type 0 where
   pub word : ℕ
   pub rule : Rule
 
+-- a row whose field is the constant itself
 abbrev pub row : Layout → ℕ → Row
 row l w = record { layout = l; word = w; rule = Plain }
 
+-- a row by another rule
 abbrev pub row-by : Rule → Layout → ℕ → Row
 row-by r l w = record { layout = l; word = w; rule = r }
 
@@ -175,6 +178,7 @@ access-rows StW = row-by Quarter low-z-r14-v3-v5 0xB800 ∷ row-by Quarter low-z
 abbrev pub short-move-rows : List Row
 short-move-rows = row z-x 0x6C03 ∷ []
 
+-- both rows of mov
 abbrev pub move-rows : List Row
 move-rows = row z-x 0x6C03 ∷ row long-zx-v5 0xC4004820 ∷ []
 

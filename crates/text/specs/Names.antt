@@ -21,6 +21,7 @@ use Rattle.isa.specs.declared.operation.Branch.the-variants.{Br, Bt, Bf, Bsr}
 use Rattle.text.specs.declared.mnemonic.Mnemonic.{Mnemonic}
 use Rattle.text.specs.declared.mnemonic.Mnemonic.the-variants.{Register, Immediate, Test, Compare, Access, Move, Constant, Jump, Bkpt, Relative}
 
+-- the names of each group
 abbrev pub register-name : RegisterOp → List ℕ
 register-name Addu = codes "addu"
 register-name Addc = codes "addc"
@@ -80,6 +81,7 @@ branch-name Bt = codes "bt"
 branch-name Bf = codes "bf"
 branch-name Bsr = codes "bsr"
 
+-- the name of a mnemonic
 abbrev pub name : Mnemonic → List ℕ
 name (Register op) = register-name op
 name (Immediate op) = immediate-name op
