@@ -51,7 +51,7 @@ fn ends_line(text: &[u8]) -> bool
 }
 
 // The base, and the index at which the bytes begin.
-pub fn read_base(text: &[u8]) -> Result<(u32, usize), Cause>
+pub(crate) fn read_base(text: &[u8]) -> Result<(u32, usize), Cause>
     ensures { λ r. ⌜ r ≡ base-of (now (text .entry)) ⌝ }
 {
     if !says_base(text) {

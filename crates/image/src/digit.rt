@@ -14,7 +14,7 @@ pub enum Turn {
 }
 
 // The value of a hexadecimal digit.
-pub fn digit(byte: u8) -> Option<u8>
+pub(crate) fn digit(byte: u8) -> Option<u8>
     ensures value { λ r. ⌜ r ≡ digit byte ⌝ }
     ensures bound { λ r. ⌜ found r (λ d. d < 16) ⌝ }
 {

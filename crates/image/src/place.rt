@@ -6,7 +6,7 @@ use crate::trouble::Cause;
 use crate::trouble::Trouble;
 
 // The line and the column of the byte at an index, or of the text's end.
-pub fn place(text: &[u8], index: usize, cause: Cause) -> Trouble
+pub(crate) fn place(text: &[u8], index: usize, cause: Cause) -> Trouble
     ensures { λ r. ⌜ r ≡ trouble-at cause (place-of (take index (now (text .entry)))) ⌝ }
 {
     let mut line = 1;

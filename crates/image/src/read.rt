@@ -13,7 +13,7 @@ use std::alloc::AllocError;
 use std::alloc::Global;
 
 // The bytes that the text spells from an index on, or why not and at which index.
-pub fn read_bytes(
+pub(crate) fn read_bytes(
     heap: Global,
     text: &[u8],
     from: usize,
