@@ -1,5 +1,7 @@
+#![tactic(auto)]
+
 pub mod act;
+pub mod display;
 pub mod form;
 pub mod item;
 pub mod new;
-pub mod text;

@@ -1,3 +1,5 @@
+#![tactic(auto)]
+
 pub mod results;
 pub mod shifts;
 pub mod worked;

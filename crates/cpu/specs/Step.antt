@@ -11,7 +11,7 @@ use Rattle.memory.specs.Memory.{Meaning}
 use Rattle.refusal.specs.declared.refusal.Refusal.{Refusal}
 use Rattle.refusal.specs.declared.refusal.Refusal.TheVariants.{InvalidArgument, NoInstruction, UnknownInstruction, Breakpoint, Misaligned}
 use Rattle.refusal.specs.Numbers.{number, refused_at}
-use Rattle.cpu.specs.declared.core.Core.{Core}
+use Rattle.cpu.specs.declared.processor.Core.{Core}
 use Rattle.cpu.specs.Account.{Outcome, refused, done, Run, ran, runs, stopped}
 
 -- a core, and what its memory means

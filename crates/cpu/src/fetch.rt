@@ -2,7 +2,7 @@
 ghost use Rattle.std.specs.Prelude.{◌≡◌, ◌+◌, ◌-◌, ◌%◌, ◌^◌, ◌<◌, ◌≤◌, length};
 ghost use Rattle.cpu.specs.Step.{fetched, trapped_at, NextEven};
 
-use crate::core::Core;
+use crate::processor::Core;
 use decoder::bytes::decode;
 use decoder::decoded::Decoded;
 use effect::trap::Trap;

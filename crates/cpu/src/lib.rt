@@ -1,9 +1,11 @@
 // A core that steps an image over any memory.
-pub mod core;
+#![tactic(auto)]
+
 pub mod fetch;
 pub mod laws;
 pub mod patch;
 pub mod patching;
+pub mod processor;
 pub mod ran;
 pub mod run;
 pub mod run_to;

@@ -2,8 +2,8 @@
 ghost use Rattle.std.specs.Prelude.{◌≡◌, ◌+◌, ◌%◌, ◌^◌, ◌<◌, ◌≤◌, length};
 ghost use Rattle.cpu.specs.Patch.{whole, patch_index, patched_if, restored_if, err_part};
 
-use crate::core::Core;
 use crate::patch::Patch;
+use crate::processor::Core;
 use refusal::refusal::Refusal;
 
 // A whole instruction lies at the index: two bytes, and four where the top two bits of their halfword are 11.

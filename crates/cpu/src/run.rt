@@ -3,7 +3,7 @@ ghost use Rattle.std.specs.Prelude.{◌≡◌, ◌+◌, ◌%◌, ◌^◌, ◌<�
 ghost use Rattle.cpu.specs.Account.{ran};
 ghost use Rattle.cpu.specs.Step.{core_state, run_of};
 
-use crate::core::Core;
+use crate::processor::Core;
 use crate::ran::Ran;
 use memory::memory::Memory;
 use refusal::refusal::Refusal;
@@ -11,7 +11,7 @@ use refusal::refusal::Refusal;
 impl Core {
     // Makes steps until one is refused, at most `budget`.
     pub fn run<M: Memory>(&mut self, code: &[u8], memory: &mut M, budget: u32) -> Ran
-        ensures { run_of code.now budget (core_state self.old (means memory.old)) ≡ ran result (core_state self.new (means memory.new)) }
+        ensures { run_of code.now budget (core_state self.old (M.means memory.old)) ≡ ran result (core_state self.new (M.means memory.new)) }
     {
         if code.len() != self.length {
             return Ran {

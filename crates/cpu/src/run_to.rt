@@ -4,7 +4,7 @@ ghost use Rattle.cpu.specs.Account.{ran};
 ghost use Rattle.cpu.specs.Patch.{run_to_of};
 ghost use Rattle.cpu.specs.Step.{core_state};
 
-use crate::core::Core;
+use crate::processor::Core;
 use crate::ran::Ran;
 use memory::memory::Memory;
 
@@ -18,7 +18,7 @@ impl Core {
         budget: u32,
     ) -> Ran
         ensures code { code.new ≡ code.old }
-        ensures runs { run_to_of code.old address budget (core_state self.old (means memory.old)) ≡ ran result (core_state self.new (means memory.new)) }
+        ensures runs { run_to_of code.old address budget (core_state self.old (M.means memory.old)) ≡ ran result (core_state self.new (M.means memory.new)) }
     {
         let patch = self.patch(code, address);
         match patch.ready() {

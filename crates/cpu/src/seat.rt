@@ -3,7 +3,7 @@ ghost use Rattle.std.specs.Prelude.{◌≡◌};
 ghost use Rattle.cpu.specs.Seat.{Seats};
 ghost use Rattle.effect.specs.Effect.{file};
 
-use crate::core::Core;
+use crate::processor::Core;
 use effect::registers::Registers;
 use refusal::refusal::Refusal;
 

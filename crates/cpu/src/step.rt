@@ -3,8 +3,8 @@ ghost use Rattle.std.specs.Prelude.{◌≡◌, ◌+◌, ◌%◌, ◌^◌, ◌<�
 ghost use Rattle.cpu.specs.Account.{Ends};
 ghost use Rattle.cpu.specs.Step.{core_state, step_of};
 
-use crate::core::Core;
 use crate::fetch::trapped_at;
+use crate::processor::Core;
 use isa::operation::Instruction;
 use memory::memory::Memory;
 use refusal::refusal::Refusal;
@@ -12,7 +12,7 @@ use refusal::refusal::Refusal;
 impl Core {
     // Fetches, decodes and obeys one instruction; refused, it changes nothing.
     pub fn step<M: Memory>(&mut self, code: &[u8], memory: &mut M) -> Result<(), Refusal>
-        ensures { Ends (step_of code.now (core_state self.old (means memory.old))) (core_state self.old (means memory.old)) result (core_state self.new (means memory.new)) }
+        ensures { Ends (step_of code.now (core_state self.old (M.means memory.old))) (core_state self.old (M.means memory.old)) result (core_state self.new (M.means memory.new)) }
     {
         if code.len() != self.length {
             return Err(Refusal::InvalidArgument);

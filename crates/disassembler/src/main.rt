@@ -1,4 +1,6 @@
 // Reads an image as hexadecimal text from standard input, and prints its instructions.
+#![tactic(auto)]
+
 use anyhow::anyhow;
 use image::reading::read_image;
 use isa::form::Form;

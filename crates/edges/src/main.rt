@@ -1,5 +1,7 @@
 // Does every operation on edge values, and compares what comes of it with what each case states. The cases on
 // standard input are made by tests/edges.py from the manual; it says how a line is read.
+#![tactic(auto)]
+
 mod case;
 mod compare;
 mod expected;

@@ -29,7 +29,7 @@ pub(crate) fn is_store(op: AccessOp) -> bool
 }
 
 fn read_byte<M: Memory>(memory: &M, at: u32) -> Result<u8, Trap>
-    ensures { result ≡ byte_at (means memory.now) at }
+    ensures { result ≡ byte_at (M.means memory.now) at }
 {
     match memory.read(at) {
         Ok(byte) => Ok(byte),
@@ -39,7 +39,7 @@ fn read_byte<M: Memory>(memory: &M, at: u32) -> Result<u8, Trap>
 
 fn read_halfword<M: Memory>(memory: &M, at: u32) -> Result<u16, Trap>
     requires { at % 2 ≡ 0 }
-    ensures { result ≡ halfword_at (means memory.now) at }
+    ensures { result ≡ halfword_at (M.means memory.now) at }
 {
     let low = read_byte(memory, at)?;
     let high = read_byte(memory, at + 1)?;
@@ -48,7 +48,7 @@ fn read_halfword<M: Memory>(memory: &M, at: u32) -> Result<u16, Trap>
 
 fn read_word<M: Memory>(memory: &M, at: u32) -> Result<u32, Trap>
     requires { at % 4 ≡ 0 }
-    ensures { result ≡ word_at (means memory.now) at }
+    ensures { result ≡ word_at (M.means memory.now) at }
 {
     let low = read_halfword(memory, at)?;
     let high = read_halfword(memory, at + 2)?;
@@ -57,7 +57,7 @@ fn read_word<M: Memory>(memory: &M, at: u32) -> Result<u32, Trap>
 
 // The value at `at`, zero extended.
 pub(crate) fn load<M: Memory>(memory: &M, width: Width, at: u32) -> Result<u32, Trap>
-    ensures { result ≡ load width (means memory.now) at }
+    ensures { result ≡ load width (M.means memory.now) at }
 {
     match width {
         Width::Byte => {
@@ -74,7 +74,7 @@ pub(crate) fn load<M: Memory>(memory: &M, width: Width, at: u32) -> Result<u32, 
 }
 
 fn ask_byte<M: Memory>(memory: &M, at: u32) -> Result<(), Trap>
-    ensures { result ≡ byte_writable (means memory.now) at }
+    ensures { result ≡ byte_writable (M.means memory.now) at }
 {
     match memory.ask(at).on_write() {
         Ok(()) => Ok(()),
@@ -84,7 +84,7 @@ fn ask_byte<M: Memory>(memory: &M, at: u32) -> Result<(), Trap>
 
 fn ask_halfword<M: Memory>(memory: &M, at: u32) -> Result<(), Trap>
     requires { at % 2 ≡ 0 }
-    ensures { result ≡ halfword_writable (means memory.now) at }
+    ensures { result ≡ halfword_writable (M.means memory.now) at }
 {
     ask_byte(memory, at)?;
     ask_byte(memory, at + 1)
@@ -92,7 +92,7 @@ fn ask_halfword<M: Memory>(memory: &M, at: u32) -> Result<(), Trap>
 
 fn ask_word<M: Memory>(memory: &M, at: u32) -> Result<(), Trap>
     requires { at % 4 ≡ 0 }
-    ensures { result ≡ word_writable (means memory.now) at }
+    ensures { result ≡ word_writable (M.means memory.now) at }
 {
     ask_halfword(memory, at)?;
     ask_halfword(memory, at + 2)
@@ -100,7 +100,7 @@ fn ask_word<M: Memory>(memory: &M, at: u32) -> Result<(), Trap>
 
 // Whether a store at `at` would be made.
 fn ask<M: Memory>(memory: &M, width: Width, at: u32) -> Result<(), Trap>
-    ensures { result ≡ writable width (means memory.now) at }
+    ensures { result ≡ writable width (M.means memory.now) at }
 {
     match width {
         Width::Byte => ask_byte(memory, at),
@@ -112,7 +112,7 @@ fn ask<M: Memory>(memory: &M, width: Width, at: u32) -> Result<(), Trap>
 
 fn write_halfword<M: Memory>(memory: &mut M, at: u32, value: u16)
     requires { at % 2 ≡ 0 }
-    ensures { means memory.new ≡ halfword_written (means memory.old) at value }
+    ensures { M.means memory.new ≡ halfword_written (M.means memory.old) at value }
 {
     let _ = memory.write(at, (value % 256) as u8);
     let _ = memory.write(at + 1, (value / 256) as u8);
@@ -120,7 +120,7 @@ fn write_halfword<M: Memory>(memory: &mut M, at: u32, value: u16)
 
 fn write_word<M: Memory>(memory: &mut M, at: u32, value: u32)
     requires { at % 4 ≡ 0 }
-    ensures { means memory.new ≡ word_written (means memory.old) at value }
+    ensures { M.means memory.new ≡ word_written (M.means memory.old) at value }
 {
     write_halfword(memory, at, (value % 65536) as u16);
     write_halfword(memory, at + 2, (value / 65536) as u16);
@@ -128,7 +128,7 @@ fn write_word<M: Memory>(memory: &mut M, at: u32, value: u32)
 
 fn write<M: Memory>(memory: &mut M, width: Width, at: u32, value: u32)
     requires { Aligned width at }
-    ensures { means memory.new ≡ stored width (means memory.old) at value }
+    ensures { M.means memory.new ≡ stored width (M.means memory.old) at value }
 {
     match width {
         Width::Byte => {
@@ -146,8 +146,8 @@ pub(crate) fn store<M: Memory>(
     at: u32,
     value: u32,
 ) -> Result<(), Trap>
-    ensures answer { result ≡ writable width (means memory.old) at }
-    ensures after { means memory.new ≡ stored_if (writable width (means memory.old) at) width (means memory.old) at value }
+    ensures answer { result ≡ writable width (M.means memory.old) at }
+    ensures after { M.means memory.new ≡ stored_if (writable width (M.means memory.old) at) width (M.means memory.old) at value }
 {
     ask(memory, width, at)?;
     write(memory, width, at, value);

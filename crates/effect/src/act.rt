@@ -18,7 +18,7 @@ impl Registers {
         next: u32,
         memory: &mut M,
     ) -> Result<u32, Trap>
-        ensures done { Ends (outcome next (state self.old (means memory.old)) (effect_on operation next (state self.old (means memory.old)))) (state self.old (means memory.old)) result (state self.new (means memory.new)) }
+        ensures done { Ends (outcome next (state self.old (M.means memory.old)) (effect_on operation next (state self.old (M.means memory.old)))) (state self.old (M.means memory.old)) result (state self.new (M.means memory.new)) }
         ensures even { next % 2 ≡ 0 → Even result }
     {
         self.act_arms(operation, next, memory)
@@ -31,7 +31,7 @@ impl Registers {
         memory: &mut M,
     ) -> Result<u32, Trap>
         ensures even { next % 2 ≡ 0 → Even result }
-        ensures done { Ends (outcome next (state self.old (means memory.old)) (does_to operation next (state self.old (means memory.old)))) (state self.old (means memory.old)) result (state self.new (means memory.new)) }
+        ensures done { Ends (outcome next (state self.old (M.means memory.old)) (does_to operation next (state self.old (M.means memory.old)))) (state self.old (M.means memory.old)) result (state self.new (M.means memory.new)) }
     {
         match operation {
             Operation::Register { op, z, x, y } => {
@@ -84,7 +84,7 @@ impl Registers {
         at: u32,
         memory: &mut M,
     ) -> Result<(), Trap>
-        ensures { Ends (outcome 0 (state self.old (means memory.old)) (accesses op z at self.old.words self.old.carry (means memory.old))) (state self.old (means memory.old)) (answered result) (state self.new (means memory.new)) }
+        ensures { Ends (outcome 0 (state self.old (M.means memory.old)) (accesses op z at self.old.words self.old.carry (M.means memory.old))) (state self.old (M.means memory.old)) (answered result) (state self.new (M.means memory.new)) }
     {
         if is_store(op) {
             store(memory, width_of(op), at, self.get(z))

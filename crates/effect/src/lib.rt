@@ -1,4 +1,6 @@
 // What an operation does to registers, carry and memory.
+#![tactic(auto)]
+
 pub mod access;
 pub mod act;
 pub mod branch;

@@ -1,3 +1,5 @@
+#![tactic(auto)]
+
 pub mod branch;
 mod fields;
 pub mod long;

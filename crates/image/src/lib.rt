@@ -1,4 +1,6 @@
 // Images as hexadecimal text.
+#![tactic(auto)]
+
 pub mod base;
 pub mod digit;
 pub mod image;

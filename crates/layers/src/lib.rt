@@ -1,4 +1,6 @@
 // Memories over other memories.
+#![tactic(auto)]
+
 pub mod laws;
 pub mod lent;
 pub mod lock;

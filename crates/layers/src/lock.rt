@@ -32,7 +32,7 @@ fn lock_cell(cell: Cell) -> Cell
 impl<M: Memory> Lock<M> {
     // Locks the `length` bytes from `start` on.
     pub fn new(below: M, start: u32, length: usize) -> Lock<M>
-        ensures { lock_meaning means result ≡ locked_range start length (means below) }
+        ensures { lock_meaning M.means result ≡ locked_range start length (M.means below) }
     {
         Lock {
             below,

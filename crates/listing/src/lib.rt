@@ -1,2 +1,4 @@
 // How instructions are shown.
+#![tactic(auto)]
+
 pub mod line;

@@ -1,4 +1,6 @@
 // Example maps, and the tests of memories at their edges.
+#![tactic(auto)]
+
 pub mod board;
 pub mod loan;
 #[cfg(test)]

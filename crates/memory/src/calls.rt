@@ -13,7 +13,7 @@ pub enum Call {
 }
 
 fn make_call<M: Memory>(memory: &mut M, call: Call)
-    ensures { means memory.new ≡ after_call (means memory.old) call }
+    ensures { M.means memory.new ≡ after_call (M.means memory.old) call }
 {
     match call {
         Call::Ask { address } => {
@@ -31,8 +31,8 @@ fn make_call<M: Memory>(memory: &mut M, call: Call)
 // Makes the calls for what they leave. Whichever they are, no address changes between absent,
 // read-only and writable, and the same part refuses there.
 pub fn make_calls<M: Memory>(memory: &mut M, calls: &[Call])
-    ensures after { means memory.new ≡ after_calls (means memory.old) calls.now }
-    ensures permissions { (address : ℕ) → permission (means memory.new address) ≡ permission (means memory.old address) }
+    ensures after { M.means memory.new ≡ after_calls (M.means memory.old) calls.now }
+    ensures permissions { (address : ℕ) → permission (M.means memory.new address) ≡ permission (M.means memory.old address) }
 {
     for call in calls {
         make_call(memory, *call);

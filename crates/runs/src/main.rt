@@ -1,11 +1,13 @@
 // Budgets and patches on a short routine: what each call answers, and that the code is as it was.
 //
 // The routine, at 00001000, is movi r0, 1; addi r1, r0, 300 (four bytes); jmp r15, which leaves the image.
+#![tactic(auto)]
+
 mod told;
 
 use crate::told::Told;
 use banks::mailbox::Mailbox;
-use cpu::core::Core;
+use cpu::processor::Core;
 use cpu::ran::Ran;
 use refusal::refusal::Refusal;
 

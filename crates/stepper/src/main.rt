@@ -2,6 +2,8 @@
 //
 // The image is hexadecimal text on standard input; an argument is the most steps to make, else 1,000. The map has a
 // bank of 256 bytes at 20000000 and a mailbox at 20001000; all registers are 0 but r14, which is at the bank's end.
+#![tactic(auto)]
+
 mod changes;
 mod end;
 mod steps;
@@ -11,7 +13,7 @@ use crate::steps::{Board, step_through};
 use anyhow::anyhow;
 use banks::bank::Bank;
 use banks::mailbox::Mailbox;
-use cpu::core::Core;
+use cpu::processor::Core;
 use image::image::Image;
 use image::reading::read_image;
 use layers::split::Split;

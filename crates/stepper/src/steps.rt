@@ -3,7 +3,7 @@ use crate::changes::{byte, stored, write_byte, write_registers};
 use crate::end::End;
 use banks::bank::Bank;
 use banks::mailbox::Mailbox;
-use cpu::core::Core;
+use cpu::processor::Core;
 use decoder::bytes::decode;
 use decoder::decoded::Decoded;
 use isa::form::Form;

@@ -1,4 +1,6 @@
 // Names and text of operations.
+#![tactic(auto)]
+
 pub mod mnemonic;
 pub mod names;
 pub mod operation;

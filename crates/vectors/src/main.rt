@@ -2,6 +2,8 @@
 //
 // A line of standard input is OURS GNU NAME A B C: our form or `none`, GNU's form, and an operation as its name
 // and the numbers that are written after it, 0 where there are fewer than three.
+#![tactic(auto)]
+
 mod operation;
 mod verdict;
 

@@ -7,11 +7,11 @@ use Rattle.decoder.specs.Decoded.{known, decoded_long}
 use Rattle.decoder.proofs.Fronts.{few_is, short_front, long_front}
 use Rattle.decoder.proofs.bytes.decode.Goals as goal
 
-pub returns-in-default-halfword-at : goal.returns-in-default-halfword-at
-returns-in-default-halfword-at c =
+pub returns-in_default-halfword_at : goal.returns-in_default-halfword_at
+returns-in_default-halfword_at c =
     let xs = c.args.code.now in
     let e = c.halfword_at.ensures in
-    let p : c.decode-halfword.result ≡ decode short (half (get_or xs 0 0) (get_or xs 1 0)) = c.decode-halfword.ensures ∙ ap (decode short) e in
+    let p : c.decode_halfword.result ≡ decode short (half (get_or xs 0 0) (get_or xs 1 0)) = c.decode_halfword.ensures ∙ ap (decode short) e in
     let q = part_to_end xs 2 in
     c.known.ensures ∙ (λ i. known (p i) 2 (q i)) ∙ sym (short_front xs (omega (arith, ltb-false)) (omega (arith, e)))
 
@@ -20,7 +20,7 @@ returns-in-49152-to-65535 c =
     let xs = c.args.code.now in
     let e = c.halfword_at.ensures in
     let q = part_to_end xs 2 in
-    c.decode-long.ensures ∙ (λ i. decoded_long (e i) (q i)) ∙ sym (long_front xs (omega (arith, ltb-false)) (omega (arith, e)))
+    c.decode_long.ensures ∙ (λ i. decoded_long (e i) (q i)) ∙ sym (long_front xs (omega (arith, ltb-false)) (omega (arith, e)))
 
-pub returns-in-default : goal.returns-in-default
-returns-in-default c = sym (few_is c.args.code.now (omega (arith, ltb-true)))
+pub returns-in_default : goal.returns-in_default
+returns-in_default c = sym (few_is c.args.code.now (omega (arith, ltb-true)))

@@ -10,6 +10,6 @@ use Rattle.decoder.proofs.bytes.decode_long.Goals as goal
 pub returns-in-len2-up : goal.returns-in-len2-up
 returns-in-len2-up c =
     let xs = c.args.code.now in
-    let p : c.decode-word.result ≡ decode long (c.args.high * 65536 + half (get_or xs 0 0) (get_or xs 1 0)) = c.decode-word.ensures ∙ ap (decode long) (omega (arith, c.halfword_at.ensures)) in
+    let p : c.decode_word.result ≡ decode long (c.args.high * 65536 + half (get_or xs 0 0) (get_or xs 1 0)) = c.decode_word.ensures ∙ ap (decode long) (omega (arith, c.halfword_at.ensures)) in
     let q = part_to_end xs 2 in
     c.known.ensures ∙ (λ i. known (p i) 4 (q i)) ∙ sym (long_is c.args.high xs (omega (arith, ltb-false)))

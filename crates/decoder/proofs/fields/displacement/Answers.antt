@@ -5,8 +5,8 @@ use Rattle.std.proofs.lemmas.Bool.Decides.{nat_tests}
 use Rattle.table.proofs.Masks.{one_shifted, halved, at_most}
 use Rattle.decoder.proofs.fields.displacement.Goals as goal
 
-pub overflow-sub-result : goal.overflow-sub-result
-overflow-sub-result c =
+pub overflow_sub-result : goal.overflow_sub-result
+overflow_sub-result c =
     let k = c.args.width in
     let e : 1 * 2 ^ k % 4294967296 ≡ 2 ^ k = one_shifted k (omega arith) in
     let m : 2 ^ k ≤ 67108864 = at_most k (omega arith) in

@@ -5,8 +5,8 @@ use Rattle.table.proofs.Masks.{one_shifted, masked, at_most}
 use Rattle.encoder.proofs.Displacements.{half_of, fits}
 use Rattle.encoder.proofs.branch.field_of.Goals as goal
 
-pub overflow-mul-half : goal.overflow-mul-half
-overflow-mul-half c =
+pub overflow_mul-half : goal.overflow_mul-half
+overflow_mul-half c =
     let k = c.args.width in
     let e = one_shifted (k - 1) (omega arith) in
     let h = half_of k c.requires.0 c.requires.1 in
@@ -16,8 +16,8 @@ pub returns-then-bits-half : goal.returns-then-bits-half
 returns-then-bits-half c =
     let k = c.args.width in
     let e : 1 * 2 ^ (k - 1) % 4294967296 ≡ 2 ^ (k - 1) = one_shifted (k - 1) (omega arith) in
-    let s = c.cast-unsigned-bits.result in
-    let b : s ≡ of_z w32 c.args.halfwords = c.cast-unsigned-bits.ensures ∙ ap (of_z w32) (to_z-of_z c.ranges.halfwords) in
+    let s = c.cast_unsigned-bits.result in
+    let b : s ≡ of_z w32 c.args.halfwords = c.cast_unsigned-bits.ensures ∙ ap (of_z w32) (to_z-of_z c.ranges.halfwords) in
     let m : bit_and s (1 * 2 ^ k % 4294967296 - 1) ≡ s % 2 ^ k = masked s k (omega arith) in
     let t : (s + 2 ^ (k - 1)) % 4294967296 < 2 * 2 ^ (k - 1) = subst (λ h. (s + h) % 4294967296 < 2 * h) e c.if-bits-half.true in
     let f = fits k c.args.halfwords c.requires.0 c.requires.1 c.ranges.halfwords (subst (λ n. (n + 2 ^ (k - 1)) % 4294967296 < 2 * 2 ^ (k - 1)) b t) in

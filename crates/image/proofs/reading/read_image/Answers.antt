@@ -14,7 +14,7 @@ returns-then-base-len-lt4294967296 c =
     let text = c.args.text.now in
     let first = c.in-Ok.first in
     let bytes = c.in-Ok-2.bytes in
-    let read = subst (Reads vec_items (hex None first.1 (drop first.1 text))) c.in-Ok-2.is c.in-ok-bytes.ensures in
+    let read = subst (Reads vec_items (hex None first.1 (drop first.1 text))) c.in-Ok-2.is c.in_ok-bytes.ensures in
     let n : vec_len bytes ≡ length (vec_items bytes) = bytes.ok.0 in
     inside text first (vec_items bytes) c.in-Ok.ensures read (omega arith)
 
@@ -23,6 +23,6 @@ returns-else-base-len-lt4294967296 c =
     let text = c.args.text.now in
     let first = c.in-Ok.first in
     let bytes = c.in-Ok-2.bytes in
-    let read = subst (Reads vec_items (hex None first.1 (drop first.1 text))) c.in-Ok-2.is c.in-ok-bytes.ensures in
+    let read = subst (Reads vec_items (hex None first.1 (drop first.1 text))) c.in-Ok-2.is c.in_ok-bytes.ensures in
     let n : vec_len bytes ≡ length (vec_items bytes) = bytes.ok.0 in
     (PastTheEnd, 5, past_end text first (vec_items bytes) c.in-Ok.ensures read (omega arith), c.place-else-base-len-lt4294967296.ensures)

@@ -6,7 +6,7 @@ use Rattle.memory.proofs.calls.make_calls.Goals as goal
 pub loop-call-preserved : goal.loop-call-preserved
 loop-call-preserved g c =
     let mem = g.M.Memory.means in
-    calls_more c.args.calls.now c.loop-call.call-index _ (mem c.loop-call.memory) (mem c.make-call.new.memory) _ c.loop-call-test.true c.loop-call.invariant c.make-call.ensures
+    calls_more c.args.calls.now c.loop-call.call-index _ (mem c.loop-call.memory) (mem c.make_call.new.memory) _ c.loop-call-test.true c.loop-call.invariant c.make_call.ensures
 
 pub returns : goal.returns
 returns g c =

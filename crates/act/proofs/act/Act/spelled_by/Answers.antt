@@ -3,8 +3,8 @@ use Rattle.isa.specs.declared.operation.Instruction.TheVariants.{Plain}
 use Rattle.act.proofs.Making.{found_spelled, found_act, not_plain, nothing}
 use Rattle.act.proofs.act.Act.spelled_by.Goals as goal
 
-pub invariant-of-result : goal.invariant-of-result
-invariant-of-result c = (found_act c.args.form c.in-Plain.operation (sym c.in-Some.ensures ∙ ap Some c.in-Plain.is), tt)
+pub invariant_of-result : goal.invariant_of-result
+invariant_of-result c = record { spelled = found_act c.args.form c.in-Plain.operation (sym c.in-Some.ensures ∙ ap Some c.in-Plain.is) }
 
 pub returns-in-Plain : goal.returns-in-Plain
 returns-in-Plain c = found_spelled c.args.form (Plain c.in-Plain.operation) (sym c.in-Some.ensures ∙ ap Some c.in-Plain.is)

@@ -3,4 +3,4 @@ use Rattle.effect.proofs.registers.Registers.act.Goals as goal
 
 pub returns : goal.returns
 unfolding effect
-returns g c = record { done = c.act-arms.ensures.done; even = c.act-arms.ensures.even }
+returns g c = record { done = c.act_arms.ensures.done; even = c.act_arms.ensures.even }

@@ -2,13 +2,13 @@ use Rattle.std.proofs.Common.{◌≡◌, true, false, eqb, sym, refl, ◌∙◌,
 use Rattle.decoder.proofs.Fronts.{decoded_length}
 use Rattle.refusal.specs.Numbers.{number}
 use Rattle.cpu.proofs.Fetching.{rest_of, fetch_past, fetch_ok, fetch_unknown, fetch_none, even_next, short_length}
-use Rattle.cpu.proofs.core.Core.fetch.Goals as goal
+use Rattle.cpu.proofs.processor.Core.fetch.Goals as goal
 
 pub returns-then-offset-code : goal.returns-then-offset-code
 returns-then-offset-code c = record { value = fetch_past c.args.self.now.base c.args.self.now.pc c.args.code.now (omega arith) (omega arith); even = tt }
 
-pub overflow-cast-result : goal.overflow-cast-result
-overflow-cast-result c = record { fits = short_length c.in-Ok.field-0.length (decoded_length _ _ (sym c.in-Ok.ensures)) }
+pub overflow_cast-result : goal.overflow_cast-result
+overflow_cast-result c = record { fits = short_length c.in-Ok.field-0.length (decoded_length _ _ (sym c.in-Ok.ensures)) }
 
 pub returns-in-Ok : goal.returns-in-Ok
 returns-in-Ok c =

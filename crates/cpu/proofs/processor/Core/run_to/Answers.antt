@@ -1,6 +1,6 @@
 use Rattle.std.proofs.Common.{rules}
 use Rattle.cpu.proofs.Refused.{refused_patch}
-use Rattle.cpu.proofs.core.Core.run_to.Goals as goal
+use Rattle.cpu.proofs.processor.Core.run_to.Goals as goal
 
 pub returns : goal.returns
 returns g c =

@@ -1,15 +1,15 @@
 use Rattle.std.proofs.Common.{rules}
 use Rattle.std.proofs.lemmas.Int.{to_z-of_z}
 use Rattle.cpu.specs.Step.{step_of}
-use Rattle.cpu.proofs.core.Core.step.Goals as goal
+use Rattle.cpu.proofs.processor.Core.step.Goals as goal
 
 pub returns-then-code-self : goal.returns-then-code-self
 unfolding step_of
 returns-then-code-self g c = search rules
 
-pub returns-in-err-instruction : goal.returns-in-err-instruction
+pub returns-in_err-instruction : goal.returns-in_err-instruction
 unfolding step_of
-returns-in-err-instruction g c = search rules
+returns-in_err-instruction g c = search rules
 
 pub returns-in-Ok : goal.returns-in-Ok
 unfolding step_of

@@ -3,7 +3,7 @@ use Rattle.std.proofs.lemmas.Bool.{cond-true, lt-ltb}
 use Rattle.refusal.specs.declared.refusal.Refusal.{Refusal}
 use Rattle.cpu.specs.Patch.{err_part, patched_if}
 use Rattle.cpu.proofs.Bytes.{back}
-use Rattle.cpu.proofs.core.Core.patch.Goals as goal
+use Rattle.cpu.proofs.processor.Core.patch.Goals as goal
 
 pub returns-in-Ok : goal.returns-in-Ok
 returns-in-Ok c =

@@ -1,7 +1,7 @@
 use Rattle.std.proofs.Common.{◌≡◌, ◌-◌, ◌≤◌}
 use Rattle.cpu.specs.Account.{runs}
 use Rattle.cpu.specs.Step.{core_state, step_of}
-use Rattle.cpu.proofs.core.Core.run.Given as goal
+use Rattle.cpu.proofs.processor.Core.run.Given as goal
 
 abbrev pub invariant-loop-steps : goal.invariant-loop-steps
 invariant-loop-steps g l =
