@@ -1,5 +1,5 @@
 -- What an act's test says of its forms.
-use Rattle.std.proofs.Common.{◌≡◌, ℕ, true, false, ℤ, Some, None, Option, sym, refl, ap, ◌∙◌, subst, arith}
+use Rattle.std.proofs.Common.{◌≡◌, ℕ, true, false, ℤ, Some, None, sym, ◌∙◌, arith}
 use Rattle.std.proofs.lemmas.Bool.{true≢false}
 use Rattle.isa.specs.declared.operation.Branch.{Branch}
 use Rattle.isa.specs.declared.operation.Operation.{Operation}
@@ -9,7 +9,7 @@ use Rattle.isa.specs.declared.form.Form.{Form}
 use Rattle.isa.specs.declared.form.Form.TheVariants.{Short, Long}
 use Rattle.table.specs.Diagram.{short, long}
 use Rattle.table.specs.Encode.{is_act, used}
-use Rattle.table.specs.Laws.{Spelled, Least}
+use Rattle.table.specs.Laws.{Spelled}
 use Rattle.table.proofs.Acts.{forms_of_acts, acts_have_forms, uses_least}
 use Rattle.table.proofs.Decoding.{decodes_exactly}
 use Rattle.act.specs.Made.{decoded_form}

@@ -1,8 +1,8 @@
 -- Rotation by parts, and the sign's shift.
-use Rattle.std.proofs.Common.{◌≡◌, ℕ, zero, suc, ◌+◌, ◌-◌, ◌*◌, ◌/◌, ◌%◌, ◌^◌, ◌<◌, ◌≤◌, min, cond, ltb, ℤ, sym, refl, ap, ◌∙◌, subst, inl, inr, add-zero, arith, w32, to_z, of_z}
+use Rattle.std.proofs.Common.{◌≡◌, ℕ, zero, suc, ◌+◌, ◌-◌, ◌*◌, ◌/◌, ◌%◌, ◌^◌, ◌<◌, ◌≤◌, min, ℤ, sym, ap, ◌∙◌, subst, inl, inr, add-zero, arith, w32, to_z, of_z}
 use lib.Bits.{bit_or, or_self}
 use lib.Signed.{shr_z}
-use Rattle.std.proofs.lemmas.Nat.{mod-pow-add, shl-shr, shr_below, or_shifted, pow-add, pow_pos, shr_split, div-mul-add, mod-mul-add, mod_below, div_below, div-add-mod', pow_below, shr_le}
+use Rattle.std.proofs.lemmas.Nat.{mod-pow-add, shl-shr, shr_below, or_shifted, pow-add, pow_pos, div-mul-add, mod-mul-add, mod_below, div_below, div-add-mod', pow_below, shr_le}
 use Rattle.std.proofs.lemmas.Bool.{cond-true, lt-ltb, cases_lt}
 use Rattle.std.proofs.lemmas.Int.{ints, of_z-to_z}
 use Rattle.std.proofs.lemmas.Bool.Decides.{nat_tests}

@@ -1,5 +1,5 @@
 -- What operations compute, of words: numbers below 2 ^ 32.
-use Rattle.std.specs.Prelude.{ℕ, ◌+◌, ◌-◌, ◌*◌, ◌/◌, ◌%◌, ◌^◌, Bool, true, false, cond, not, ℤ, pos, ◌-ℤ◌, ◌==◌, bit_and, bit_or, int_lt, nat_le, nat_lt}
+use Rattle.std.specs.Prelude.{ℕ, ◌+◌, ◌-◌, ◌*◌, ◌/◌, ◌%◌, ◌^◌, Bool, cond, not, ℤ, pos, ◌-ℤ◌, ◌==◌, bit_and, bit_or, int_lt, nat_le, nat_lt}
 use Rattle.std.specs.Int.{w32}
 use Rattle.std.proofs.Common.{of_z}
 use Rattle.isa.specs.declared.operation.RegisterOp.{RegisterOp}

@@ -1,5 +1,5 @@
 -- Two bytes of a code, written and put back.
-use Rattle.std.proofs.Common.{◌≡◌, ℕ, ◌+◌, ◌≢◌, List, get_or, set, sym, refl, ap, ◌∙◌, arith}
+use Rattle.std.proofs.Common.{◌≡◌, ℕ, ◌+◌, ◌≢◌, List, get_or, set, ap, ◌∙◌, arith}
 use Rattle.std.proofs.lemmas.List.{set-set, set_comm, set-get_or}
 
 -- two bytes written over twice, at last with what stood there

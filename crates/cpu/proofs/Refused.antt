@@ -1,5 +1,5 @@
 -- A refused patch.
-use Rattle.std.proofs.Common.{◌≡◌, ℕ, List, Some, None, Ok, Err, Option, Result, sym, refl, ap, ◌∙◌, arith}
+use Rattle.std.proofs.Common.{◌≡◌, ℕ, List, Ok, Err, Option, Result, ap, ◌∙◌, arith}
 use Rattle.refusal.specs.declared.refusal.Refusal.{Refusal}
 use Rattle.cpu.specs.Account.{ran, stopped}
 use Rattle.cpu.specs.Patch.{err_part, ready, run_at}

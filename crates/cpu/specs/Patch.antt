@@ -1,5 +1,5 @@
 -- A breakpoint set in the code, and put back.
-use Rattle.std.specs.Prelude.{◌≡◌, ℕ, ◌+◌, ◌-◌, ◌%◌, Bool, cond, ◌&&◌, ◌||◌, List, length, set, Some, None, Ok, Err, Option, Result, ◌==◌, nat_le, nat_lt, slice_index, slice_set}
+use Rattle.std.specs.Prelude.{ℕ, ◌+◌, ◌-◌, ◌%◌, Bool, cond, ◌&&◌, ◌||◌, List, length, Some, None, Ok, Err, Option, Result, ◌==◌, nat_le, nat_lt, slice_index, slice_set}
 use Rattle.cpu.specs.Account.{Run, ran, stopped}
 use Rattle.cpu.specs.Step.{CoreState, run_of}
 use Rattle.refusal.specs.declared.refusal.Refusal.{Refusal}

@@ -1,5 +1,5 @@
 -- When a core is made, and what it holds then.
-use Rattle.std.specs.Prelude.{◌≡◌, ℕ, ◌+◌, ◌%◌, ◌^◌, Bool, cond, ◌&&◌, List, length, Some, None, Ok, Err, Option, Result, ◌==◌, nat_le, nat_lt}
+use Rattle.std.specs.Prelude.{◌≡◌, ℕ, ◌+◌, ◌%◌, ◌^◌, cond, ◌&&◌, List, length, Some, None, Ok, Err, Option, Result, ◌==◌, nat_le, nat_lt}
 use Rattle.effect.specs.declared.registers.Registers.{Registers}
 use Rattle.cpu.specs.declared.processor.Core.{Core}
 use Rattle.refusal.specs.declared.refusal.Refusal.{Refusal}

@@ -1,5 +1,5 @@
 -- A step of a core over its code.
-use Rattle.std.specs.Prelude.{◌≡◌, ℕ, ◌+◌, ◌-◌, ◌%◌, ◌^◌, Bool, cond, List, length, drop, Ok, Err, Result, ◌==◌, nat_lt}
+use Rattle.std.specs.Prelude.{◌≡◌, ℕ, ◌+◌, ◌-◌, ◌%◌, ◌^◌, cond, List, length, drop, Ok, Err, Result, ◌==◌, nat_lt}
 use Rattle.effect.specs.declared.registers.Registers.{Registers}
 use Rattle.effect.specs.declared.trap.Trap.{Trap}
 use Rattle.effect.specs.declared.trap.Trap.TheVariants as trap

@@ -1,10 +1,9 @@
 -- The first bytes of a code, and the bytes of a form in front of others.
-use Rattle.std.proofs.Common.{◌≡◌, ℕ, ◌+◌, ◌*◌, ◌/◌, ◌%◌, ◌<◌, ◌≤◌, cond, ltb, ◌⊎◌, List, [], ◌∷◌, ◌++◌, length, get_or, drop, Some, None, Ok, Option, sym, refl, ap, ◌∙◌, inl, inr, ⊎_elim, arith}
+use Rattle.std.proofs.Common.{◌≡◌, ℕ, ◌+◌, ◌*◌, ◌/◌, ◌%◌, ◌<◌, ◌≤◌, ltb, ◌⊎◌, List, [], ◌∷◌, ◌++◌, length, get_or, drop, Some, None, Ok, Option, sym, refl, ap, ◌∙◌, inl, inr, ⊎_elim, arith}
 use Rattle.std.proofs.lemmas.Bool.{cond-true, cond-false, cases_Bool, lt-ltb, le-ltb}
 use Rattle.isa.specs.declared.operation.Instruction.{Instruction}
-use Rattle.isa.specs.declared.form.Form.{Form}
 use Rattle.isa.specs.declared.form.Form.TheVariants.{Short, Long}
-use Rattle.isa.specs.Bytes.{half, image, size}
+use Rattle.isa.specs.Bytes.{half, image}
 use Rattle.table.specs.Diagram.{short, long}
 use Rattle.table.specs.Decode.{decode}
 use Rattle.table.proofs.Decoding.{decodes_exactly, told_apart}

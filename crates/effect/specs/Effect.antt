@@ -1,5 +1,5 @@
 -- What an operation does to registers, carry and memory. It knows neither the image nor its own address.
-use Rattle.std.specs.Prelude.{◌≡◌, ℕ, ◌+◌, ◌%◌, ◌^◌, Bool, true, false, cond, not, List, ℤ, Ok, Err, Result, slice_index, slice_set}
+use Rattle.std.specs.Prelude.{◌≡◌, ℕ, ◌+◌, ◌%◌, ◌^◌, Bool, true, cond, not, List, ℤ, Ok, Err, Result, slice_index, slice_set}
 use Rattle.effect.specs.declared.trap.Trap.{Trap}
 use Rattle.effect.specs.declared.trap.Trap.TheVariants as trap
 use Rattle.effect.specs.declared.registers.Registers.{Registers}

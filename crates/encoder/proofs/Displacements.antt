@@ -1,7 +1,7 @@
 -- Displacements in two's complement: when they fit, and their bits.
-use Rattle.std.proofs.Common.{◌≡◌, ℕ, suc, ◌+◌, ◌-◌, ◌*◌, ◌%◌, ◌^◌, ◌<◌, ◌≤◌, ltb, ℤ, pos, negsuc, Some, None, Option, sym, refl, ap, ◌∙◌, subst, mod-eq_of_lt, arith, pow_mono, w32, SFits, of_z}
+use Rattle.std.proofs.Common.{◌≡◌, ℕ, suc, ◌+◌, ◌-◌, ◌*◌, ◌%◌, ◌^◌, ◌<◌, ◌≤◌, ℤ, pos, negsuc, Some, None, sym, ap, ◌∙◌, mod-eq_of_lt, arith, pow_mono, w32, SFits, of_z}
 use Rattle.std.proofs.lemmas.Bool.{cond-true, lt-ltb}
-use Rattle.table.specs.Encode.{complement, field_of}
+use Rattle.table.specs.Encode.{field_of}
 use Rattle.table.proofs.Masks.{halved, low_of_negative}
 
 -- half the range of k bits

@@ -1,9 +1,9 @@
 -- An image put together from its base and its bytes.
-use Rattle.std.proofs.Common.{◌≡◌, ℕ, ◌+◌, ◌<◌, ◌≤◌, ltb, List, length, drop, None, Ok, sym, refl, ap, ◌∙◌}
+use Rattle.std.proofs.Common.{◌≡◌, ℕ, ◌+◌, ◌<◌, ◌≤◌, List, length, drop, None, Ok, sym, ap, ◌∙◌}
 use Rattle.std.proofs.lemmas.Bool.{cond-true, cond-false, lt-ltb, le-ltb}
 use Rattle.image.specs.Base.{base_of}
 use Rattle.image.specs.Hex.{spells, hex}
-use Rattle.image.specs.Image.{Meaning, image, trouble, based, from_base, image_of}
+use Rattle.image.specs.Image.{image, trouble, based, from_base, image_of}
 use Rattle.image.specs.declared.trouble.Cause.TheVariants.{PastTheEnd}
 
 module _ (text : List ℕ) (first : ℕ × ℕ) (bytes : List ℕ) (base-is : Ok first ≡ base_of text) (bytes-are : hex None first.1 (drop first.1 text) ≡ spells bytes) where

@@ -1,7 +1,6 @@
 -- The bytes that a text spells, or the first index at which it does not.
 use Rattle.std.specs.Prelude.{ℕ, ◌+◌, List, [], ◌∷◌, ◌++◌, Some, None, Option}
 use Rattle.image.specs.Digit.{next}
-use Rattle.image.specs.declared.digit.Turn.{Turn}
 use Rattle.image.specs.declared.digit.Turn.TheVariants.{Gap, High, Byte, Wrong}
 use Rattle.image.specs.declared.trouble.Cause.{Cause}
 use Rattle.image.specs.declared.trouble.Cause.TheVariants.{HalfByte}

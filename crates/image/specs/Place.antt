@@ -1,5 +1,5 @@
 -- Lines and columns of a text, both counted from 1.
-use Rattle.std.specs.Prelude.{ℕ, ◌+◌, cond, List, [], ◌∷◌, fold, ◌==◌}
+use Rattle.std.specs.Prelude.{ℕ, ◌+◌, cond, List, fold, ◌==◌}
 use Rattle.image.specs.declared.trouble.Cause.{Cause}
 use Rattle.image.specs.declared.trouble.Trouble.{Trouble}
 

@@ -45,7 +45,7 @@ const UP_TO_TOP: [Expected; 4] = [
 fn a_bank_reaches_the_top(rt: HostRuntime) -> Result<(), Fail> {
     let mut bank = Bank::new(TOP - 1, Vec::from_slice(rt.alloc(), &[1, 2])?);
     all_behave(&mut bank, &UP_TO_TOP)?;
-    assert_eq!(rt; bank.into_bytes().as_slice(), &[0xA5, 0xA5]);
+    assert_eq!(rt; bank.into_bytes().as_slice(), [0xA5, 0xA5].as_slice());
     Ok(())
 }
 

@@ -3,7 +3,7 @@ use effect::registers::Registers;
 use isa::operation::{AccessOp, Operation};
 use memory::cell::Cell;
 use memory::memory::Memory;
-use std::fmt;
+use std::alloc::AllocError;
 use std::fmt::Write;
 
 // The registers and the carry that are not what they were.
@@ -11,7 +11,7 @@ pub(crate) fn write_registers(
     out: &mut String,
     old: &Registers,
     new: &Registers,
-) -> Result<(), fmt::Error> {
+) -> Result<(), AllocError> {
     for x in 0..32u8 {
         let was = old.get(x);
         let is = new.get(x);
@@ -57,7 +57,7 @@ pub(crate) fn write_byte(
     address: u32,
     was: Option<u8>,
     is: Option<u8>,
-) -> Result<(), fmt::Error> {
+) -> Result<(), AllocError> {
     match (was, is) {
         (Some(old), Some(new)) if old != new => write!(
             out,

@@ -1,8 +1,7 @@
 -- Acts are what the table's forms spell, and the form used is least.
-use Rattle.std.proofs.Common.{◌≡◌, ℕ, ◌≤◌, Bool, true, false, ◌&&◌, ◌||◌, ◌⊎◌, ℤ, is_some, Some, None, Option, sym, refl, ap, ◌∙◌, subst, inl, inr, ⊎_elim, arith}
+use Rattle.std.proofs.Common.{◌≡◌, ℕ, ◌≤◌, true, false, ◌||◌, is_some, Some, None, Option, sym, refl, ap, ◌∙◌, subst, arith}
 use Rattle.std.proofs.lemmas.Bool.{and_parts, and_from, and_right, or_left, or_right, false≢true}
 use Rattle.isa.specs.declared.operation.Operation.{Operation}
-use Rattle.isa.specs.declared.operation.Branch.{Branch}
 use Rattle.isa.specs.declared.operation.Instruction.{Instruction}
 use Rattle.isa.specs.declared.operation.Instruction.TheVariants.{Plain, Relative}
 use Rattle.isa.specs.declared.form.Form.{Form}
@@ -11,7 +10,7 @@ use Rattle.isa.specs.Normal.{is_normal}
 use Rattle.isa.specs.Bytes.{size}
 use Rattle.table.specs.Diagram.{Size, short, long}
 use Rattle.table.specs.Decode.{Spells, decode}
-use Rattle.table.specs.Encode.{form_of, has_form, is_act, branch_form, least, used, used_branch}
+use Rattle.table.specs.Encode.{form_of, has_form, is_act, branch_form, least}
 use Rattle.table.specs.Laws.{FormsOfActs, ActsHaveForms, Spelled, Least, UsesLeast}
 use Rattle.table.proofs.Rows.{form_spells, none_some}
 use Rattle.table.proofs.Decoding.{decodes_exactly}

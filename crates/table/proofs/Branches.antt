@@ -1,18 +1,17 @@
 -- The forms of branches.
-use Rattle.std.proofs.Common.{◌≡◌, ℕ, suc, ◌+◌, ◌-◌, ◌*◌, ◌%◌, ◌^◌, ◌<◌, ◌≤◌, Bool, true, false, cond, ◌&&◌, eqb, ltb, ◌⊎◌, List, [], ◌∷◌, ℤ, pos, negsuc, ◌-ℤ◌, Some, None, Option, sym, refl, ap, ◌∙◌, subst, inl, inr, ⊎_elim, add-zero, mod-eq_of_lt, arith}
+use Rattle.std.proofs.Common.{◌≡◌, ℕ, suc, ◌+◌, ◌-◌, ◌*◌, ◌%◌, ◌^◌, ◌<◌, ◌≤◌, true, false, cond, ◌&&◌, eqb, ltb, [], ◌∷◌, ℤ, pos, negsuc, ◌-ℤ◌, Some, None, Option, sym, refl, ap, ◌∙◌, subst, inl, inr, ⊎_elim, add-zero, mod-eq_of_lt, arith}
 use Rattle.std.proofs.lemmas.Bool.{and_parts, and_from, eq-eqb, ltb-true, lt-ltb, ltb-false, le-ltb, cond-true, cond-false, cases_Bool, true≢false}
 use Rattle.std.proofs.lemmas.Int.{ints}
 use Rattle.isa.specs.declared.operation.Branch.{Branch}
 use Rattle.isa.specs.declared.operation.Branch.TheVariants.{Br, Bt, Bf, Bsr}
-use Rattle.isa.specs.declared.operation.Instruction.{Instruction}
-use Rattle.isa.specs.declared.operation.Instruction.TheVariants.{Plain, Relative}
-use Rattle.table.specs.Diagram.{Size, short, long, has_size, number, width, rest, fixed, v, free, Layout, layout, fits}
-use Rattle.table.specs.Table.{Row, row, branch_rows, offset10, offset16, offset26}
-use Rattle.table.specs.Decode.{By, Spells, holds, form, relative, signed}
+use Rattle.isa.specs.declared.operation.Instruction.TheVariants.{Relative}
+use Rattle.table.specs.Diagram.{Size, short, long, has_size, fixed, v, free, layout, fits}
+use Rattle.table.specs.Table.{Row, row, branch_rows}
+use Rattle.table.specs.Decode.{By, Spells, form, relative, signed}
 use Rattle.table.specs.Encode.{complement, field_of, plus, first_branch, sized_rows, branch_form}
 use Rattle.table.specs.Laws.{FormsOfBranches}
-use Rattle.table.proofs.Rows.{Member, Within, in_branches, none_some, some_same}
-use Rattle.table.proofs.Listed.{OfBranch, listed_branch}
+use Rattle.table.proofs.Rows.{Member, in_branches, none_some, some_same}
+use Rattle.table.proofs.Listed.{listed_branch}
 
 -- two's complement, to a field and back
 from_complement : (m f n : ℕ) (d : ℤ) → f ≡ 2 * m → complement m f d ≡ Some n → (n < f) × (cond (ltb n m) (pos n) (pos n -ℤ pos f) ≡ d)

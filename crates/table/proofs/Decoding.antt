@@ -1,5 +1,5 @@
 -- The decoder finds exactly the forms of the table.
-use Rattle.std.proofs.Common.{◌≡◌, ℕ, ◌+◌, ◌-◌, ◌*◌, ◌/◌, ◌%◌, ◌^◌, ◌<◌, ◌≤◌, Bool, true, false, cond, not, ◌&&◌, ◌||◌, eqb, ltb, leb, ◌⊎◌, List, [], ◌∷◌, Some, None, Option, sym, refl, ap, ◌∙◌, subst, inl, inr, ⊎_elim, mod-eq_of_lt, arith}
+use Rattle.std.proofs.Common.{◌≡◌, ℕ, ◌+◌, ◌-◌, ◌*◌, ◌/◌, ◌%◌, ◌^◌, ◌<◌, ◌≤◌, Bool, true, false, cond, not, ◌&&◌, ◌||◌, eqb, ltb, leb, List, [], ◌∷◌, Some, None, Option, sym, refl, ap, ◌∙◌, subst, inl, inr, ⊎_elim, mod-eq_of_lt, arith}
 use Rattle.std.proofs.lemmas.Bool.{and_parts, and_from, eqb-true, eqb-false, eq-eqb, ltb-true, lt-ltb, leb-true, le-leb, or_cases, cond-true, cond-false, cases_Bool, not-true, false≢true}
 use Rattle.std.proofs.lemmas.Nat.{shr_high, shr_split, mod_below, pow_pos}
 use Rattle.isa.specs.declared.operation.Instruction.{Instruction}
@@ -8,7 +8,7 @@ use Rattle.table.specs.Laws.{DecodesExactly, Unshared, ToldApart}
 use Rattle.isa.specs.declared.rule.Rule.{Rule}
 use Rattle.isa.specs.declared.rule.Rule.TheVariants.{Plain, LessOne, Half, Quarter}
 use Rattle.table.specs.Table.{to_field, from_field, Row}
-use Rattle.table.specs.Decode.{Entry, holds, form, By, Among, Spells, start, matches, meaning, scan, sized, table, decode, between}
+use Rattle.table.specs.Decode.{Entry, By, Among, start, matches, meaning, scan, sized, table, decode, between}
 use Rattle.table.proofs.Packing.{clear, Holds, taken_below, unpack, Packed, pack}
 
 -- a pinned register has no field

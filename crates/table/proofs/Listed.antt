@@ -1,32 +1,24 @@
 -- An operation that the table lists by some form has a first form by its own rows.
-use Rattle.std.proofs.Common.{◌≡◌, ℕ, zero, suc, ◌+◌, ◌-◌, ◌*◌, ◌/◌, ◌%◌, ◌^◌, ◌<◌, ◌≤◌, Bool, true, false, cond, not, ◌&&◌, ◌||◌, eqb, ltb, leb, ◌⊎◌, List, [], ◌∷◌, ◌++◌, ℤ, is_some, Some, None, Option, sym, refl, ap, ◌∙◌, subst, inl, inr, ⊎_elim, arith}
-use Rattle.std.proofs.lemmas.Bool.{and_parts, and_from, eqb-true, ltb-true, lt-ltb, ltb-false, le-ltb, cond-true, cond-false, cases_Bool, not-true, false≢true, and_right, or_left, or_right}
+use Rattle.std.proofs.Common.{◌≡◌, ℕ, ◌^◌, ◌<◌, Bool, true, false, cond, not, ◌&&◌, ◌||◌, eqb, ltb, ◌⊎◌, List, [], ◌∷◌, ◌++◌, ℤ, is_some, Some, Option, sym, refl, ap, ◌∙◌, subst, inl, inr, ⊎_elim, arith}
+use Rattle.std.proofs.lemmas.Bool.{and_parts, and_from, eqb-true, ltb-true, lt-ltb, le-ltb, cond-true, cond-false, cases_Bool, false≢true, and_right}
 use Rattle.isa.specs.declared.operation.RegisterOp.{RegisterOp}
-use Rattle.isa.specs.declared.operation.RegisterOp.TheVariants.{Addu, Addc, Subu, And, Andn, Or, Lsl, Lsr, Asr, Rotl, Mult, Ixh, Ixw}
 use Rattle.isa.specs.declared.operation.ImmediateOp.{ImmediateOp}
 use Rattle.isa.specs.declared.operation.ImmediateOp.TheVariants.{Addi, Andi, Lsli, Lsri, Asri, Rotli, Bclri, Bseti}
 use Rattle.isa.specs.declared.operation.TestOp.{TestOp}
-use Rattle.isa.specs.declared.operation.TestOp.TheVariants.{Btsti, Cmplti, Cmpnei}
 use Rattle.isa.specs.declared.operation.CompareOp.{CompareOp}
-use Rattle.isa.specs.declared.operation.CompareOp.TheVariants.{Cmphs, Cmplt, Cmpne}
 use Rattle.isa.specs.declared.operation.AccessOp.{AccessOp}
-use Rattle.isa.specs.declared.operation.AccessOp.TheVariants.{LdB, LdH, LdW, LdBs, LdHs, StB, StH, StW}
 use Rattle.isa.specs.declared.operation.ConstantOp.{ConstantOp}
-use Rattle.isa.specs.declared.operation.ConstantOp.TheVariants.{Movi, Movih}
 use Rattle.isa.specs.declared.operation.JumpOp.{JumpOp}
-use Rattle.isa.specs.declared.operation.JumpOp.TheVariants.{Jmp, Jsr}
 use Rattle.isa.specs.declared.operation.Branch.{Branch}
-use Rattle.isa.specs.declared.operation.Branch.TheVariants.{Br, Bt, Bf, Bsr}
 use Rattle.isa.specs.declared.operation.Operation.{Operation}
 use Rattle.isa.specs.declared.operation.Operation.TheVariants.{Register, Immediate, Test, Compare, Access, Move, Constant, Jump, Bkpt}
-use Rattle.isa.specs.declared.operation.Instruction.{Instruction}
 use Rattle.isa.specs.declared.operation.Instruction.TheVariants.{Plain, Relative}
-use Rattle.isa.specs.Normal.{commutes, is_move, normal, is_normal}
-use Rattle.table.specs.Diagram.{Size, short, long, has_size, Operand, reg_z, reg_x, reg_y, number, Pins, free, x_is_z, x_is_r14, both_are_r14, Layout, width, rest, registers_fit, fits}
+use Rattle.isa.specs.Normal.{commutes, is_move, is_normal}
+use Rattle.table.specs.Diagram.{Size, short, long, has_size, Operand, reg_z, reg_x, reg_y, number, Pins, free, x_is_z, x_is_r14, both_are_r14, Layout, width, rest, registers_fit}
 use Rattle.isa.specs.declared.rule.Rule.TheVariants.{LessOne, Quarter}
 use Rattle.table.specs.Table.{row, row_by, to_field, from_field, low_zx_v3, low_zz_v8, low_z_r14_v8, r14_r14_v2_v5, long_zx_v12, low_zx_v5, long_zx_v5, z_x, Row, register_rows, immediate_rows, test_rows, compare_rows, access_rows, short_move_rows, move_rows, constant_rows, jump_rows, bkpt_rows, branch_rows}
-use Rattle.table.specs.Decode.{Reading, Entry, holds, form, In, By, Among, Spells, lines, each, sized, table, sections, joined, register_ops, immediate_ops, test_ops, compare_ops, access_ops, constant_ops, jump_ops, branches, register, immediate, test, compare, access, move, constant, jump, bkpt, relative}
-use Rattle.table.specs.Encode.{first, sized_rows, form_of, rows, operand, exchanges}
+use Rattle.table.specs.Decode.{Reading, Entry, holds, form, In, By, Spells, lines, each, sized, table, sections, joined, register_ops, immediate_ops, test_ops, compare_ops, access_ops, constant_ops, jump_ops, branches, register, immediate, test, compare, access, move, constant, jump, bkpt, relative}
+use Rattle.table.specs.Encode.{first, sized_rows, form_of}
 use Rattle.table.proofs.Rows.{Member, Within}
 
 -- an operand without a field is 0

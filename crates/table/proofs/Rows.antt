@@ -1,5 +1,5 @@
 -- The first form of an operation by its own rows is one that the table lists for it.
-use Rattle.std.proofs.Common.{◌≡◌, ℕ, zero, suc, ◌<◌, ◌≤◌, Bool, true, false, cond, not, ◌&&◌, ◌||◌, eqb, ltb, leb, ◌⊎◌, List, [], ◌∷◌, ◌++◌, get_or, Some, None, Option, sym, refl, ap, ◌∙◌, subst, inl, inr, ⊎_elim, arith}
+use Rattle.std.proofs.Common.{◌≡◌, ℕ, zero, suc, ◌≤◌, Bool, true, cond, not, ◌&&◌, ltb, ◌⊎◌, List, [], ◌∷◌, ◌++◌, get_or, Some, None, Option, sym, refl, ap, ◌∙◌, subst, inl, inr, ⊎_elim, arith}
 use Rattle.std.proofs.lemmas.Bool.{and_parts, and_from, ltb-false, cond-true, cond-false, cases_Bool, not-true, true≢false, false≢true}
 use Rattle.isa.specs.declared.operation.RegisterOp.{RegisterOp}
 use Rattle.isa.specs.declared.operation.RegisterOp.TheVariants.{Addu, Addc, Subu, And, Andn, Or, Lsl, Lsr, Asr, Rotl, Mult, Ixh, Ixw}
@@ -20,11 +20,11 @@ use Rattle.isa.specs.declared.operation.Branch.TheVariants.{Br, Bt, Bf, Bsr}
 use Rattle.isa.specs.declared.operation.Operation.{Operation}
 use Rattle.isa.specs.declared.operation.Operation.TheVariants.{Register, Immediate, Test, Compare, Access, Move, Constant, Jump, Bkpt}
 use Rattle.isa.specs.declared.operation.Instruction.{Instruction}
-use Rattle.isa.specs.declared.operation.Instruction.TheVariants.{Plain, Relative}
+use Rattle.isa.specs.declared.operation.Instruction.TheVariants.{Plain}
 use Rattle.isa.specs.Normal.{commutes, is_move, normal, is_normal}
-use Rattle.table.specs.Diagram.{Size, short, long, has_size, reg_z, reg_x, reg_y, number}
-use Rattle.table.specs.Table.{Row, register_rows, immediate_rows, test_rows, compare_rows, access_rows, short_move_rows, move_rows, constant_rows, jump_rows, bkpt_rows, branch_rows}
-use Rattle.table.specs.Decode.{Reading, Entry, holds, form, In, By, Among, Spells, lines, each, sized, table, sections, joined, register_ops, immediate_ops, test_ops, compare_ops, access_ops, constant_ops, jump_ops, branches, register, immediate, test, compare, access, move, constant, jump, bkpt, relative}
+use Rattle.table.specs.Diagram.{Size, has_size, reg_z, reg_x, reg_y, number}
+use Rattle.table.specs.Table.{Row, register_rows, immediate_rows, test_rows, compare_rows, access_rows, short_move_rows, constant_rows, jump_rows, bkpt_rows, branch_rows}
+use Rattle.table.specs.Decode.{Reading, Entry, holds, form, In, By, Spells, lines, each, sized, table, sections, joined, register_ops, immediate_ops, test_ops, compare_ops, access_ops, constant_ops, jump_ops, branches, register, immediate, test, compare, access, move, constant, jump, bkpt, relative}
 use Rattle.table.specs.Encode.{first, sized_rows, form_of, rows, operand, exchanges}
 
 abbrev pub Member : {O : Type 0} → O → List O → Type 0

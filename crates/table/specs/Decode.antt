@@ -1,5 +1,5 @@
 -- What a halfword or a word spells: the table as a list of entries, and the first one that a form matches.
-use Rattle.std.specs.Prelude.{◌≡◌, ℕ, ◌+◌, ◌-◌, ◌*◌, ◌/◌, ◌^◌, Bool, true, false, cond, ◌&&◌, ◌||◌, ◌⊎◌, List, [], ◌∷◌, ◌++◌, ℤ, pos, ◌-ℤ◌, Some, None, Option, ◌==◌, nat_le, nat_lt}
+use Rattle.std.specs.Prelude.{◌≡◌, ℕ, ◌+◌, ◌-◌, ◌*◌, ◌/◌, ◌^◌, Bool, true, cond, ◌&&◌, ◌||◌, ◌⊎◌, List, [], ◌∷◌, ◌++◌, ℤ, pos, ◌-ℤ◌, Some, None, Option, ◌==◌, nat_le, nat_lt}
 use Rattle.isa.specs.declared.operation.RegisterOp.{RegisterOp}
 use Rattle.isa.specs.declared.operation.RegisterOp.TheVariants.{Addu, Addc, Subu, And, Andn, Or, Lsl, Lsr, Asr, Rotl, Mult, Ixh, Ixw}
 use Rattle.isa.specs.declared.operation.ImmediateOp.{ImmediateOp}
@@ -19,7 +19,7 @@ use Rattle.isa.specs.declared.operation.Branch.TheVariants.{Br, Bt, Bf, Bsr}
 use Rattle.isa.specs.declared.operation.Operation.TheVariants.{Register, Immediate, Test, Compare, Access, Move, Constant, Jump, Bkpt}
 use Rattle.isa.specs.declared.operation.Instruction.{Instruction}
 use Rattle.isa.specs.declared.operation.Instruction.TheVariants.{Plain, Relative}
-use Rattle.table.specs.Diagram.{Size, short, long, has_size, reg_y, number, bits, width, place, taken, agrees, rest, span, fits, operands, z_of, x_of}
+use Rattle.table.specs.Diagram.{Size, short, long, has_size, reg_y, number, width, place, taken, agrees, rest, span, fits, operands, z_of, x_of}
 use Rattle.table.specs.Table.{to_field, from_field, Row, register_rows, immediate_rows, test_rows, compare_rows, access_rows, short_move_rows, constant_rows, jump_rows, bkpt_rows, branch_rows}
 use Rattle.isa.specs.Normal.{normal}
 

@@ -1,12 +1,11 @@
 -- Worked examples, by the public GNU opcode table and by hand.
-use Rattle.std.specs.Prelude.{◌≡◌, ℤ, negsuc, Some, None, Option}
+use Rattle.std.specs.Prelude.{◌≡◌, negsuc, Some, None}
 use Rattle.isa.specs.declared.operation.RegisterOp.TheVariants.{Addu}
 use Rattle.isa.specs.declared.operation.ImmediateOp.TheVariants.{Addi}
 use Rattle.isa.specs.declared.operation.CompareOp.TheVariants.{Cmphs}
 use Rattle.isa.specs.declared.operation.AccessOp.TheVariants.{StW}
 use Rattle.isa.specs.declared.operation.Branch.TheVariants.{Bt}
 use Rattle.isa.specs.declared.operation.Operation.TheVariants.{Register, Immediate, Compare, Access, Move}
-use Rattle.isa.specs.declared.form.Form.{Form}
 use Rattle.isa.specs.declared.form.Form.TheVariants.{Short, Long}
 use Rattle.isa.specs.Normal.{bgeni}
 use Rattle.table.specs.Encode.{used, used_branch}

@@ -1,4 +1,4 @@
-use Rattle.std.proofs.Common.{◌≡◌, ◌+◌, ◌*◌, ◌<◌, ◌≤◌, length, get_or, sym, ap, ◌∙◌, arith, ltb-false, ltb-true}
+use Rattle.std.proofs.Common.{◌≡◌, get_or, sym, ap, ◌∙◌, arith, ltb-false, ltb-true}
 use borrow.Author.Rules.{part_to_end}
 use Rattle.isa.specs.Bytes.{half}
 use Rattle.table.specs.Diagram.{short}

@@ -1,4 +1,4 @@
-use Rattle.std.proofs.Common.{◌≡◌, ◌+◌, ◌*◌, ◌≤◌, get_or, sym, ap, ◌∙◌, arith, ltb-false}
+use Rattle.std.proofs.Common.{◌≡◌, ◌+◌, ◌*◌, get_or, sym, ap, ◌∙◌, arith, ltb-false}
 use borrow.Author.Rules.{part_to_end}
 use Rattle.isa.specs.Bytes.{half}
 use Rattle.table.specs.Diagram.{long}

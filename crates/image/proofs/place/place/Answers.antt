@@ -1,4 +1,4 @@
-use Rattle.std.proofs.Common.{◌≡◌, ◌+◌, ◌≤◌, take, sym, ap, ◌∙◌, arith}
+use Rattle.std.proofs.Common.{◌≡◌, take, sym, ap, ◌∙◌, arith}
 use Rattle.image.specs.Place.{place_of, trouble_at}
 use Rattle.image.proofs.Places.{newline_more, other_more, all_taken}
 use Rattle.image.proofs.place.place.Goals as goal

@@ -1,4 +1,4 @@
-use Rattle.std.proofs.Common.{◌≡◌, ◌+◌, [], drop, vec_items, sym, ap, ◌∙◌, append-nil, arith}
+use Rattle.std.proofs.Common.{◌+◌, drop, vec_items, sym, ap, ◌∙◌, append-nil}
 use Rattle.image.specs.Hex.{spells, after, at_end, hex}
 use Rattle.image.proofs.Hexes.{gap_more, high_more, byte_more, wrong_here, at_last}
 use Rattle.image.proofs.read.read_bytes.Goals as goal

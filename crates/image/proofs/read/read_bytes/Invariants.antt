@@ -1,4 +1,4 @@
-use Rattle.std.proofs.Common.{◌≡◌, ◌-◌, ◌≤◌, [], length, drop, None, vec_items}
+use Rattle.std.proofs.Common.{◌≡◌, ◌-◌, length, drop, None, vec_items}
 use Rattle.image.specs.Hex.{after, hex}
 use Rattle.image.proofs.read.read_bytes.Given as goal
 

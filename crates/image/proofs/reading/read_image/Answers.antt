@@ -1,5 +1,5 @@
-use Rattle.std.proofs.Common.{◌≡◌, ◌+◌, ◌<◌, ◌≤◌, length, drop, None, vec_items, vec_len, sym, ap, ◌∙◌, subst, arith}
-use Rattle.image.specs.Hex.{hex, spells}
+use Rattle.std.proofs.Common.{◌≡◌, length, drop, None, vec_items, vec_len, sym, ap, subst, arith}
+use Rattle.image.specs.Hex.{hex}
 use Rattle.image.specs.Read.{Reads}
 use Rattle.image.specs.Image.{from_base}
 use Rattle.image.specs.declared.trouble.Cause.TheVariants.{PastTheEnd}

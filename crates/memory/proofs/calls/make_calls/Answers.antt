@@ -1,4 +1,4 @@
-use Rattle.std.proofs.Common.{◌≡◌, ap, ◌∙◌, arith}
+use Rattle.std.proofs.Common.{ap, ◌∙◌, arith}
 use Rattle.memory.specs.Calls.{permission}
 use Rattle.memory.proofs.Permissions.{calls_more, calls_all, calls_permission}
 use Rattle.memory.proofs.calls.make_calls.Goals as goal

@@ -1,4 +1,4 @@
-use Rattle.std.proofs.Common.{◌≡◌, Some, sym, ap, ◌∙◌}
+use Rattle.std.proofs.Common.{Some, sym, ap, ◌∙◌}
 use Rattle.isa.specs.declared.operation.Instruction.TheVariants.{Plain}
 use Rattle.act.proofs.Making.{found_spelled, found_act, not_plain, nothing}
 use Rattle.act.proofs.act.Act.spelled_by.Goals as goal

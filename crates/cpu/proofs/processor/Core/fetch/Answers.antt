@@ -1,7 +1,7 @@
-use Rattle.std.proofs.Common.{◌≡◌, true, false, eqb, sym, refl, ◌∙◌, arith, eq-eqb, ne_eqb}
+use Rattle.std.proofs.Common.{◌≡◌, true, false, eqb, sym, ◌∙◌, arith, eq-eqb, ne_eqb}
 use Rattle.decoder.proofs.Fronts.{decoded_length}
 use Rattle.refusal.specs.Numbers.{number}
-use Rattle.cpu.proofs.Fetching.{rest_of, fetch_past, fetch_ok, fetch_unknown, fetch_none, even_next, short_length}
+use Rattle.cpu.proofs.Fetching.{fetch_past, fetch_ok, fetch_unknown, fetch_none, even_next, short_length}
 use Rattle.cpu.proofs.processor.Core.fetch.Goals as goal
 
 pub returns-then-offset-code : goal.returns-then-offset-code

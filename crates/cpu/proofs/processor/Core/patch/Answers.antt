@@ -1,4 +1,4 @@
-use Rattle.std.proofs.Common.{◌≡◌, ℕ, ◌+◌, ◌<◌, length, set, Result, sym, refl, ap, ◌∙◌, arith, length-set, rules}
+use Rattle.std.proofs.Common.{ℕ, ◌+◌, ◌<◌, length, set, Result, sym, refl, ap, ◌∙◌, arith, length-set, rules}
 use Rattle.std.proofs.lemmas.Bool.{cond-true, lt-ltb}
 use Rattle.refusal.specs.declared.refusal.Refusal.{Refusal}
 use Rattle.cpu.specs.Patch.{err_part, patched_if}

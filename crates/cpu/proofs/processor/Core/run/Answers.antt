@@ -1,4 +1,4 @@
-use Rattle.std.proofs.Common.{◌≡◌, sym, ap, ◌∙◌, arith}
+use Rattle.std.proofs.Common.{sym, ap, ◌∙◌, arith}
 use Rattle.cpu.specs.Account.{ran, stopped}
 use Rattle.cpu.specs.Step.{CoreState, core_state, step_of}
 use Rattle.cpu.proofs.Running.{run_is, runs_more, runs_stops}

@@ -1,4 +1,4 @@
-use Rattle.std.proofs.Common.{◌≡◌, ◌≤◌, length, sym, refl, arith, rules}
+use Rattle.std.proofs.Common.{◌≡◌, length, sym, refl, arith, rules}
 use Rattle.std.proofs.lemmas.List.{set_past}
 use Rattle.effect.proofs.registers.Registers.set.Goals as goal
 
