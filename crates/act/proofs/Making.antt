@@ -1,5 +1,5 @@
 -- What an act's test says of its forms.
-use Rattle.std.proofs.Common.{◌≡◌, ℕ, true, false, ℤ, Some, None, sym, ◌∙◌, arith}
+use Rattle.std.proofs.Common.{◌≡◌, ℕ, true, false, ℤ, Some, None, IsSome, sym, refl, ◌∙◌, subst, arith}
 use Rattle.std.proofs.lemmas.Bool.{true≢false}
 use Rattle.isa.specs.declared.operation.Branch.{Branch}
 use Rattle.isa.specs.declared.operation.Operation.{Operation}
@@ -12,7 +12,7 @@ use Rattle.table.specs.Encode.{is_act, used}
 use Rattle.table.specs.Laws.{Spelled}
 use Rattle.table.proofs.Acts.{forms_of_acts, acts_have_forms, uses_least}
 use Rattle.table.proofs.Decoding.{decodes_exactly}
-use Rattle.act.specs.Made.{decoded_form}
+use Rattle.decoder.specs.Decoded.{decoded_form}
 
 pub has_one : (o : Operation) → is_act o ≡ true → (f : Form) × Spelled f (Plain o)
 has_one o t = let u = acts_have_forms o t in (u.0, (uses_least.act o u.0 t u.1).spells)
@@ -21,8 +21,8 @@ pub has_none : (o : Operation) → is_act o ≡ false → (f : Form) → Spelled
 has_none o t (Short h) s = true≢false (sym ((forms_of_acts short).act o h s) ∙ t)
 has_none o t (Long w) s = true≢false (sym ((forms_of_acts long).act o w s) ∙ t)
 
-pub never_unformed : (o : Operation) → is_act o ≡ true → used o ≡ None → ⊥
-never_unformed o t e = let u = acts_have_forms o t in let p = u.1 in let z : ◌≡◌ {A = ℕ} 0 1 = cc in omega arith
+pub formed : (o : Operation) → is_act o ≡ true → IsSome (used o)
+formed o t = let u = acts_have_forms o t in subst IsSome (sym u.1) refl
 
 pub found_spelled : (f : Form) (i : Instruction) → decoded_form f ≡ Some i → Spelled f i
 found_spelled (Short h) i e = (decodes_exactly short).spelled i h e

@@ -4,12 +4,8 @@ use Rattle.refusal.specs.declared.refusal.Refusal.{Refusal}
 use Rattle.refusal.specs.declared.refusal.Refusal.TheVariants.{NoForm}
 use Rattle.isa.specs.declared.operation.Operation.{Operation}
 use Rattle.isa.specs.declared.operation.Instruction.TheVariants.{Plain}
-use Rattle.isa.specs.declared.operation.Instruction.{Instruction}
 use Rattle.isa.specs.declared.form.Form.{Form}
-use Rattle.isa.specs.declared.form.Form.TheVariants.{Short, Long}
 use Rattle.isa.specs.Normal.{normal}
-use Rattle.table.specs.Diagram.{short, long}
-use Rattle.table.specs.Decode.{decode}
 use Rattle.table.specs.Laws.{Spelled}
 use Rattle.act.specs.declared.act.Act.{Act}
 
@@ -17,11 +13,6 @@ use Rattle.act.specs.declared.act.Act.{Act}
 abbrev pub Made : Operation → Result Act Refusal → Type 0
 Made parts (Ok a) = (a.operation ≡ normal parts) × ((f : Form) × Spelled f (Plain (normal parts)))
 Made parts (Err e) = (e ≡ NoForm 0) × ((f : Form) → Spelled f (Plain (normal parts)) → ⊥)
-
--- what a form decodes to, by its size
-abbrev pub decoded_form : Form → Option Instruction
-decoded_form (Short h) = decode short h
-decoded_form (Long w) = decode long w
 
 -- the act that a form spells, if it spells one
 abbrev pub Decoded : Form → Option Act → Type 0

@@ -4,7 +4,7 @@ ghost use Rattle.table.specs.Encode.{is_act};
 
 use isa::operation::Operation;
 
-#[derive(Clone, Copy)]
+#[derive(Clone, Copy, Debug, PartialEq, Eq)]
 pub struct Act {
     pub(crate) operation: Operation,
     ghost spelled: { is_act operation ≡ true },

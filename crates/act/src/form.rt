@@ -24,10 +24,7 @@ impl Act {
         ensures used { used self.operation ≡ Some result }
         ensures least { Least result (Instruction.Plain self.operation) }
     {
-        match used_form(self.operation) {
-            Some(form) => form,
-            None => unreachable(),
-        }
+        used_form(self.operation).unwrap()
     }
 }
 
@@ -35,24 +32,16 @@ impl Act {
 fn used_form(operation: Operation) -> Option<Form>
     ensures { result ≡ used operation }
 {
-    match short_form(operation) {
-        Some(h) => Some(Form::Short(h)),
-        None => match long_form(operation) {
-            Some(w) => Some(Form::Long(w)),
-            None => None,
-        },
-    }
+    short_form(operation)
+        .map(Form::Short)
+        .or_else(|| long_form(operation).map(Form::Long))
 }
 
 // The form that is used for a branch by a displacement in halfwords; none where it fits no form.
 pub fn branch_form(branch: Branch, halfwords: i32) -> Option<Form>
     ensures { result ≡ used_branch branch halfwords }
 {
-    match short_branch(branch, halfwords) {
-        Some(h) => Some(Form::Short(h)),
-        None => match long_branch(branch, halfwords) {
-            Some(w) => Some(Form::Long(w)),
-            None => None,
-        },
-    }
+    short_branch(branch, halfwords)
+        .map(Form::Short)
+        .or_else(|| long_branch(branch, halfwords).map(Form::Long))
 }

@@ -2,7 +2,7 @@
 use crate::act::Act;
 use isa::operation::Branch;
 
-#[derive(Clone, Copy)]
+#[derive(Clone, Copy, Debug, PartialEq, Eq)]
 pub enum Item {
     Act(Act),
     Branch { branch: Branch, label: u8 },

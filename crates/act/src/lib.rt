@@ -1,3 +1,4 @@
+// Acts and items.
 #![tactic(auto)]
 
 pub mod act;

@@ -1,11 +1,10 @@
 // Acts from their parts, and from the decoder.
 ghost use Rattle.std.specs.Prelude.{◌≡◌, true, false};
 ghost use Rattle.table.specs.Encode.{has_form};
-ghost use Rattle.act.specs.Made.{Made, Decoded, decoded_form};
+ghost use Rattle.act.specs.Made.{Made, Decoded};
 
 use crate::act::Act;
-use decoder::halfword::decode_halfword;
-use decoder::word::decode_word;
+use decoder::form::decode_form;
 use encoder::long::long_form;
 use encoder::short::short_form;
 use isa::form::Form;
@@ -17,16 +16,6 @@ fn has_form(operation: Operation) -> bool
     ensures { result ≡ has_form operation }
 {
     short_form(operation).is_some() || long_form(operation).is_some()
-}
-
-// What a form spells.
-fn decoded(form: Form) -> Option<Instruction>
-    ensures { result ≡ decoded_form form }
-{
-    match form {
-        Form::Short(halfword) => decode_halfword(halfword),
-        Form::Long(word) => decode_word(word),
-    }
 }
 
 impl Act {
@@ -46,12 +35,9 @@ impl Act {
     pub fn spelled_by(form: Form) -> Option<Act>
         ensures { Decoded form result }
     {
-        match decoded(form) {
-            Some(found) => match found {
-                Instruction::Plain(operation) => Some(Act { operation }),
-                Instruction::Relative { .. } => None,
-            },
-            None => None,
+        match decode_form(form)? {
+            Instruction::Plain(operation) => Some(Act { operation }),
+            Instruction::Relative { .. } => None,
         }
     }
 

@@ -1,10 +1,11 @@
 -- Rotation by parts, and the sign's shift.
-use Rattle.std.proofs.Common.{◌≡◌, ℕ, zero, suc, ◌+◌, ◌-◌, ◌*◌, ◌/◌, ◌%◌, ◌^◌, ◌<◌, ◌≤◌, min, ℤ, sym, ap, ◌∙◌, subst, inl, inr, add-zero, arith, w32, to_z, of_z}
+use Rattle.std.proofs.Common.{◌≡◌, ℕ, zero, suc, ◌+◌, ◌-◌, ◌*◌, ◌/◌, ◌%◌, ◌^◌, ◌<◌, ◌≤◌, min, sym, ap, ◌∙◌, subst, inl, inr, add-zero, arith, w32, to_z, of_z}
+use Rattle.std.proofs.Math.Nat.{pow-le-pow_right}
 use lib.Bits.{bit_or, or_self}
 use lib.Signed.{shr_z}
-use Rattle.std.proofs.lemmas.Nat.{mod-pow-add, shl-shr, shr_below, or_shifted, pow-add, pow_pos, div-mul-add, mod-mul-add, mod_below, div_below, div-add-mod', pow_below, shr_le}
+use Rattle.std.proofs.lemmas.Nat.{mod-pow-add, shl-shr, shr_below, or_shifted, pow-add, pow_pos, div-mul-add, mod-mul-add, mod_below, div_below, div-add-mod'}
 use Rattle.std.proofs.lemmas.Bool.{cond-true, lt-ltb, cases_lt}
-use Rattle.std.proofs.lemmas.Int.{ints, of_z-to_z}
+use Rattle.std.proofs.lemmas.Int.{ints}
 use Rattle.std.proofs.lemmas.Bool.Decides.{nat_tests}
 use Rattle.alu.specs.Values.{asr, rotl}
 
@@ -54,28 +55,19 @@ turned_over x k h b =
     let whole : 2 ^ (32 - k) * 2 ^ k ≡ 2 ^ 32 = sym (pow-add 2 (32 - k) k) ∙ ap (λ n. 2 ^ n) all in
     subst (λ t. (t - suc x) / 2 ^ k + suc (x / 2 ^ k) ≡ 2 ^ (32 - k)) whole (mirrored (2 ^ k) (2 ^ (32 - k)) x (pow_pos k) (rw whole h))
 
-power : (k : ℕ) → k < 32 → 2 ^ (32 - k) ≤ 2 ^ 32
-power zero b = omega arith
-power (suc k) b = let h : 2 ^ (32 - suc k) < 2 ^ 32 = pow_below (32 - suc k) 32 (omega arith) in omega arith
+power : (k : ℕ) → 2 ^ (32 - k) ≤ 2 ^ 32
+power k = let h : 32 - k ≤ 32 = omega arith in pow-le-pow_right (omega arith) h
 
-pub shifted : (x k : ℕ) → x < 2 ^ 32 → k < 32 → of_z w32 (shr_z (to_z w32 x) (2 ^ k)) ≡ asr x k
-shifted x k h b = let m = turned_over x k h b in let p = power k b in grind (arith, ints, nat_tests)
+shifted : (x k : ℕ) → x < 2 ^ 32 → k < 32 → of_z w32 (shr_z (to_z w32 x) (2 ^ k)) ≡ asr x k
+shifted x k h b = let m = turned_over x k h b in let p = power k in grind (arith, ints, nat_tests)
 
-pub filled : (x k : ℕ) → x < 2 ^ 32 → 32 ≤ k → of_z w32 (shr_z (to_z w32 x) (2 ^ 31)) ≡ asr x k
+filled : (x k : ℕ) → x < 2 ^ 32 → 32 ≤ k → of_z w32 (shr_z (to_z w32 x) (2 ^ 31)) ≡ asr x k
 filled x k h b = grind (arith, ints, nat_tests)
 
-below : (x k : ℕ) → x < 2 ^ 32 → k < 32 → asr x k < 2 ^ 32
-below x k h b = let m = turned_over x k h b in let p = power k b in let q = shr_le x k in grind (arith, nat_tests)
-
-capped : (x k m : ℕ) → x < 2 ^ 32 → m ≡ min k 31 → asr x m ≡ asr x k
-capped x k m h is =
-    elim (cases_lt k 32) [ inl b ↦ (let e : m ≡ k = omega arith in ap (λ n. asr x n) e) | inr b ↦ (let e : m ≡ 31 = omega arith in let f : asr x 31 ≡ asr x k = grind (arith, nat_tests) in ap (λ n. asr x n) e ∙ f) ]
-
--- a signed shift between two casts
-pub signs : (x k m r : ℕ) (s : ℤ) → x < 2 ^ 32 → s ≡ to_z w32 x → m ≡ min k 31 → r ≡ of_z w32 (to_z w32 (of_z w32 (shr_z (to_z w32 (of_z w32 s)) (2 ^ m)))) → r ≡ asr x k
-signs x k m r s h is least e =
-    let b : m < 32 = omega arith in
-    let a : of_z w32 s ≡ x = ap (λ z. of_z w32 z) is ∙ of_z-to_z w32 x h in
-    let d = shifted x m h b in
-    let f : of_z w32 (shr_z (to_z w32 x) (2 ^ m)) < 2 ^ 32 = rw d (below x m h b) in
-    (rw a at e) ∙ (of_z-to_z w32 (of_z w32 (shr_z (to_z w32 x) (2 ^ m))) f ∙ (d ∙ capped x k m h least))
+-- a shift of the signed word by at most 31
+pub signs : (x k : ℕ) → x < 2 ^ 32 → of_z w32 (shr_z (to_z w32 x) (2 ^ min k 31)) ≡ asr x k
+signs x k h =
+    elim (cases_lt k 32) [
+      | inl b ↦ (let e : min k 31 ≡ k = omega arith in rw e (shifted x k h b))
+      | inr b ↦ (let e : min k 31 ≡ 31 = omega arith in rw e (filled x k h b))
+    ]

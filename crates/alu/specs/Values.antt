@@ -105,13 +105,17 @@ abbrev pub constant_result : ConstantOp → ℕ → ℕ
 constant_result Movi n = n
 constant_result Movih n = n * 2 ^ 16 % 2 ^ 32
 
--- a byte and a halfword with their sign in all higher bits
+-- a value of so many bits with its top bit in all higher bits
+abbrev pub extended : ℕ → ℕ → ℕ
+extended bits v = cond (nat_lt v (2 ^ (bits - 1))) v (v + (2 ^ 32 - 2 ^ bits))
+
+-- a byte with its sign in all higher bits
 abbrev pub extended_byte : ℕ → ℕ
-extended_byte b = cond (nat_lt b (2 ^ 7)) b (b + (2 ^ 32 - 2 ^ 8))
+extended_byte b = extended 8 b
 
 -- a halfword, likewise
 abbrev pub extended_halfword : ℕ → ℕ
-extended_halfword h = cond (nat_lt h (2 ^ 15)) h (h + (2 ^ 32 - 2 ^ 16))
+extended_halfword h = extended 16 h
 
 -- an address with bit 0 cleared
 abbrev pub even : ℕ → ℕ

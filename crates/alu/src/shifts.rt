@@ -1,23 +1,11 @@
-// Shifts by any count, signed comparison and extension, and addresses.
+// Shifts by any count, comparison of signed words, and addresses.
 ghost use Rattle.std.specs.Prelude.{◌≡◌, ℕ, ◌+◌, ◌-◌, ◌*◌, ◌/◌, ◌%◌, ◌^◌, ◌<◌, cond, ℤ, pos, int_lt};
-ghost use Rattle.alu.specs.Values.{lsl, lsr, asr, rotl, signed, extended_byte, extended_halfword, even, target};
-
-pub(crate) fn lsl(x: u32, k: u32) -> u32
-    ensures { result ≡ lsl x k }
-{
-    if k < 32 { x << k } else { 0 }
-}
-
-pub(crate) fn lsr(x: u32, k: u32) -> u32
-    ensures { result ≡ lsr x k }
-{
-    if k < 32 { x >> k } else { 0 }
-}
+ghost use Rattle.alu.specs.Values.{asr, rotl, signed, even, target};
 
 pub(crate) fn asr(x: u32, k: u32) -> u32
     ensures { result ≡ asr x k }
 {
-    (x.cast_signed() >> k.min(31)).cast_unsigned()
+    x.cast_signed().unbounded_shr(k).cast_unsigned()
 }
 
 pub(crate) fn rotl(x: u32, k: u32) -> u32
@@ -37,34 +25,14 @@ pub(crate) fn below(x: u32, y: u32) -> bool
 pub(crate) fn below_constant(x: u32, n: u32) -> bool
     ensures { result ≡ int_lt (signed x) (pos n) }
 {
-    (x.cast_signed() as i64) < n as i64
-}
-
-pub fn extend_byte(b: u8) -> u32
-    ensures { result ≡ extended_byte b }
-{
-    if b < 0x80 {
-        b as u32
-    } else {
-        b as u32 + 0xffff_ff00
-    }
-}
-
-pub fn extend_halfword(h: u16) -> u32
-    ensures { result ≡ extended_halfword h }
-{
-    if h < 0x8000 {
-        h as u32
-    } else {
-        h as u32 + 0xffff_0000
-    }
+    i64::from(x.cast_signed()) < i64::from(n)
 }
 
 // The address with bit 0 cleared.
 pub fn even(a: u32) -> u32
     ensures { result ≡ even a }
 {
-    a / 2 * 2
+    a & !1
 }
 
 // Where a branch at `pc` goes by a displacement in halfwords.

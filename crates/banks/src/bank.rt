@@ -2,9 +2,9 @@
 ghost use Rattle.std.specs.Prelude.{◌≡◌};
 ghost use Rattle.banks.specs.Bank.{bank_meaning, banked};
 
+use crate::ram;
 use memory::cell::Cell;
 use memory::memory::Memory;
-use memory::span::offset;
 use refusal::fault::Fault;
 
 #[derive(Drop)]
@@ -37,21 +37,16 @@ impl Memory for Bank {
     ghost means = { bank_meaning };
 
     fn ask(&self, address: u32) -> Cell {
-        match offset(self.base, self.bytes.len(), address) {
-            Some(i) => Cell::Writable {
-                byte: self.bytes[i],
-            },
-            None => Cell::Absent { part: Self::PART },
-        }
+        ram::ask(self.base, self.bytes.as_slice(), Self::PART, address)
     }
 
     fn write(&mut self, address: u32, byte: u8) -> Result<(), Fault> {
-        match offset(self.base, self.bytes.len(), address) {
-            Some(i) => {
-                self.bytes[i] = byte;
-                Ok(())
-            }
-            None => Err(Fault::Absent { part: Self::PART }),
-        }
+        ram::write(
+            self.base,
+            self.bytes.as_mut_slice(),
+            Self::PART,
+            address,
+            byte,
+        )
     }
 }

@@ -3,4 +3,5 @@
 
 pub mod bank;
 pub mod mailbox;
+mod ram;
 pub mod store;

@@ -2,9 +2,9 @@
 ghost use Rattle.std.specs.Prelude.{◌≡◌, replicate};
 ghost use Rattle.banks.specs.Mailbox.{mailbox_meaning, boxed};
 
+use crate::ram;
 use memory::cell::Cell;
 use memory::memory::Memory;
-use memory::span::offset;
 use refusal::fault::Fault;
 
 #[derive(Drop)]
@@ -30,21 +30,10 @@ impl Memory for Mailbox {
     ghost means = { mailbox_meaning };
 
     fn ask(&self, address: u32) -> Cell {
-        match offset(self.base, self.bytes.len(), address) {
-            Some(i) => Cell::Writable {
-                byte: self.bytes[i],
-            },
-            None => Cell::Absent { part: Self::PART },
-        }
+        ram::ask(self.base, &self.bytes, Self::PART, address)
     }
 
     fn write(&mut self, address: u32, byte: u8) -> Result<(), Fault> {
-        match offset(self.base, self.bytes.len(), address) {
-            Some(i) => {
-                self.bytes[i] = byte;
-                Ok(())
-            }
-            None => Err(Fault::Absent { part: Self::PART }),
-        }
+        ram::write(self.base, &mut self.bytes, Self::PART, address, byte)
     }
 }

@@ -2,15 +2,14 @@
 use Rattle.std.proofs.Common.{◌≡◌, ℕ, zero, suc, ◌+◌, ◌≤◌, true, false, eqb, List, length, Some, None, Ok, Err, Option, Result, sym, refl, ap, ◌∙◌, ⊎_elim, add-zero, zero-add, arith}
 use Rattle.std.proofs.lemmas.Bool.{cond-true, cond-false, cases_Bool}
 use Rattle.effect.specs.declared.trap.Trap.{Trap}
-use Rattle.effect.specs.Effect.{State, state, outcome, effect_on}
+use Rattle.effect.specs.Effect.{State, state, obeyed_at}
 use Rattle.isa.specs.declared.operation.Instruction.{Instruction}
-use Rattle.isa.specs.declared.operation.Instruction.TheVariants.{Plain, Relative}
 use Rattle.refusal.specs.declared.refusal.Refusal.{Refusal}
 use Rattle.refusal.specs.declared.refusal.Refusal.TheVariants.{InvalidArgument}
 use Rattle.cpu.specs.declared.ran.Ran.{Ran}
 use Rattle.cpu.specs.Account.{Outcome, refused, done, ended, Run, ran, over, completed, stopped, runs}
 use Rattle.cpu.specs.Step.{CoreState, acted, obeyed, fetched, step_of, run_of}
-use Rattle.cpu.proofs.Running.{runs_done, runs_refused, runs_ended}
+use Rattle.cpu.proofs.Running.{runs_done, runs_refused, runs_ended, run_fits}
 use Rattle.cpu.specs.Laws.{RunsJoin, RefusedRunsChangeNothing}
 
 -- a run's answer with j more steps before it
@@ -114,8 +113,7 @@ acted_size s t (Ok (p, u)) e = ap (λ (x : CoreState). x.size) (sym (done_is _ t
 
 obeyed_size : (s t : CoreState) (o : Result (Instruction × ℕ) Refusal) → obeyed s o ≡ done t → t.size ≡ s.size
 obeyed_size s t (Err q) e = absurd (not_done q t e)
-obeyed_size s t (Ok (Plain o, next)) e = acted_size s t (outcome next (state s.registers s.memory) (effect_on o next (state s.registers s.memory))) e
-obeyed_size s t (Ok (Relative b d, next)) e = ap (λ (x : CoreState). x.size) (sym (done_is _ t e))
+obeyed_size s t (Ok (i, next)) e = acted_size s t (obeyed_at i s.pc next (state s.registers s.memory)) e
 
 step_size : (code : List ℕ) (s t : CoreState) → step_of code s ≡ done t → t.size ≡ s.size
 unfolding step_of
@@ -125,15 +123,12 @@ step_size code s t e =
     (λ h. absurd (not_done InvalidArgument t (sym (cond-false _ (obeyed s (fetched s.base s.pc code)) (refused InvalidArgument) h) ∙ e)))
     (cases_Bool (eqb (length code) s.size))
 
--- a run over code of the right length, and of another
-run_fits : (code : List ℕ) (b : ℕ) (s : CoreState) → eqb (length code) s.size ≡ true → run_of code b s ≡ runs (step_of code) b 0 s
-run_fits code b s h = cond-true _ (runs (step_of code) b 0 s) (ran (stopped 0 InvalidArgument) s) h
-
+-- a run over code of another length
 run_refused : (code : List ℕ) (b : ℕ) (s : CoreState) → eqb (length code) s.size ≡ false → run_of code b s ≡ ran (stopped 0 InvalidArgument) s
 run_refused code b s h = cond-false _ (runs (step_of code) b 0 s) (ran (stopped 0 InvalidArgument) s) h
 
-pub runs_join_lem : RunsJoin
-runs_join_lem code a b s t u r p q =
+pub consecutive_runs : RunsJoin
+consecutive_runs code a b s t u r p q =
     ⊎_elim
     (λ h.
     let move = step_of code in

@@ -1,5 +1,3 @@
-pub mod Bytes
 pub mod Fetching
 pub mod Running
 pub mod Joining
-pub mod Refused

@@ -3,6 +3,7 @@ use Rattle.std.proofs.Common.{◌≡◌, ℕ, suc, ◌+◌, ◌-◌, ◌<◌, �
 use Rattle.std.proofs.lemmas.Bool.{cond-true}
 use Rattle.std.proofs.lemmas.Bool.Decides.{nat_tests}
 use Rattle.refusal.specs.declared.refusal.Refusal.{Refusal}
+use Rattle.refusal.specs.declared.refusal.Refusal.TheVariants.{InvalidArgument}
 use Rattle.cpu.specs.Account.{Outcome, refused, done, ended, Run, ran, over, completed, stopped, runs}
 use Rattle.cpu.specs.Step.{CoreState, step_of, run_of}
 
@@ -30,5 +31,9 @@ module _ {S : Type 0} (move : S → Outcome S) (b k : ℕ) (s : S) where
   pub runs_over : (c : Run S) → b ≤ k → runs move (b - k) k s ≡ c → c ≡ ran (completed k) s
   runs_over c h so = let e : b - k ≡ 0 = omega arith in sym so ∙ ap (λ n. runs move n k s) e
 
-pub run_is : (code : List ℕ) (budget : ℕ) (s : CoreState) → length code ≡ s.size → run_of code budget s ≡ runs (step_of code) budget 0 s
-run_is code budget s h = let e : eqb (length code) s.size ≡ true = grind (arith, nat_tests) in cond-true _ _ _ e
+-- a run over code of the right length
+pub run_fits : (code : List ℕ) (b : ℕ) (s : CoreState) → eqb (length code) s.size ≡ true → run_of code b s ≡ runs (step_of code) b 0 s
+run_fits code b s h = cond-true _ (runs (step_of code) b 0 s) (ran (stopped 0 InvalidArgument) s) h
+
+pub run_is : (code : List ℕ) (b : ℕ) (s : CoreState) → length code ≡ s.size → run_of code b s ≡ runs (step_of code) b 0 s
+run_is code b s h = let e : eqb (length code) s.size ≡ true = grind (arith, nat_tests) in run_fits code b s e

@@ -2,15 +2,14 @@
 use Rattle.std.specs.Prelude.{◌≡◌, ℕ, ◌+◌, ◌-◌, ◌%◌, ◌^◌, cond, List, length, drop, Ok, Err, Result, ◌==◌, nat_lt}
 use Rattle.effect.specs.declared.registers.Registers.{Registers}
 use Rattle.effect.specs.declared.trap.Trap.{Trap}
-use Rattle.effect.specs.declared.trap.Trap.TheVariants as trap
-use Rattle.effect.specs.Effect.{State, state, outcome, effect_on, file, goes_to, called}
+use Rattle.effect.specs.Effect.{State, state, obeyed_at}
+use Rattle.effect.specs.Trap.{trapped_at}
 use Rattle.decoder.specs.Decoded.{Front, decoded}
 use Rattle.isa.specs.declared.operation.Instruction.{Instruction}
-use Rattle.isa.specs.declared.operation.Instruction.TheVariants.{Plain, Relative}
 use Rattle.memory.specs.Memory.{Meaning}
 use Rattle.refusal.specs.declared.refusal.Refusal.{Refusal}
-use Rattle.refusal.specs.declared.refusal.Refusal.TheVariants.{InvalidArgument, NoInstruction, UnknownInstruction, Breakpoint, Misaligned}
-use Rattle.refusal.specs.Numbers.{number, refused_at}
+use Rattle.refusal.specs.declared.refusal.Refusal.TheVariants.{InvalidArgument, NoInstruction, UnknownInstruction}
+use Rattle.refusal.specs.Numbers.{number}
 use Rattle.cpu.specs.declared.processor.Core.{Core}
 use Rattle.cpu.specs.Account.{Outcome, refused, done, Run, ran, runs, stopped}
 
@@ -26,12 +25,6 @@ pub record CoreState : Type 0 where
 abbrev pub core_state : Core → Meaning → CoreState
 core_state c m = record { registers = c.registers; pc = c.pc; base = c.base; size = c.length; memory = m }
 
--- a trap of the instruction at pc
-abbrev pub trapped_at : ℕ → Trap → Refusal
-trapped_at pc trap.Breakpoint = Breakpoint pc
-trapped_at pc (trap.Misaligned a) = Misaligned pc a
-trapped_at pc (trap.Faulted a f) = refused_at f pc a
-
 -- the decoder's answer at pc: an instruction and the address after it, or its refusal with the PC
 abbrev pub placed : ℕ → Result Front Refusal → Result (Instruction × ℕ) Refusal
 placed pc (Ok f) = Ok (f.instruction, (pc + f.length) % 2 ^ 32)
@@ -45,7 +38,7 @@ fetched base pc code = cond (nat_lt pc base) (Err (NoInstruction pc)) (placed pc
 abbrev pub moved : CoreState → Registers → ℕ → Meaning → CoreState
 moved s r p m = record { registers = r; pc = p; base = s.base; size = s.size; memory = m }
 
--- a step that did an operation, or was refused by its trap
+-- a step that did an instruction, or was refused by its trap
 abbrev pub acted : CoreState → Result (ℕ × State) Trap → Outcome CoreState
 acted s (Err t) = refused (trapped_at s.pc t)
 acted s (Ok (p, t)) = done (moved s t.registers p t.memory)
@@ -53,9 +46,7 @@ acted s (Ok (p, t)) = done (moved s t.registers p t.memory)
 -- an instruction obeyed
 abbrev pub obeyed : CoreState → Result (Instruction × ℕ) Refusal → Outcome CoreState
 obeyed s (Err q) = refused q
-obeyed s (Ok (Plain o, next)) = acted s (outcome next (state s.registers s.memory) (effect_on o next (state s.registers s.memory)))
-obeyed s (Ok (Relative b d, next)) =
-    done (moved s (file (called b next s.registers.words) s.registers.carry) (goes_to b s.pc d next s.registers.carry) s.memory)
+obeyed s (Ok (i, next)) = acted s (obeyed_at i s.pc next (state s.registers s.memory))
 
 -- a step over this code, which has to have the length that the core was seated with
 unfoldable pub step_of : List ℕ → CoreState → Outcome CoreState

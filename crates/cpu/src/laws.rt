@@ -1,14 +1,12 @@
-// What holds of runs.
+// What holds of runs. The lemma on each function is the law's proof.
 ghost use Rattle.cpu.specs.Laws.{RunsJoin, RefusedRunsChangeNothing};
 
-pub fn runs_join() -> u8
+#[tactic(auto, using(crate::proofs::Joining::consecutive_runs))]
+pub fn runs_join()
     ensures { RunsJoin }
-{
-    0
-}
+{}
 
-pub fn refused_runs_change_nothing() -> u8
+#[tactic(auto, using(crate::proofs::Joining::refused_runs))]
+pub fn refused_runs_change_nothing()
     ensures { RefusedRunsChangeNothing }
-{
-    0
-}
+{}

@@ -1,7 +1,7 @@
 // A core that steps an image over any memory.
 #![tactic(auto)]
 
-pub mod fetch;
+mod fetch;
 pub mod laws;
 pub mod patch;
 pub mod patching;

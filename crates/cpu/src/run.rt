@@ -14,24 +14,13 @@ impl Core {
         ensures { run_of code.now budget (core_state self.old (M.means memory.old)) ≡ ran result (core_state self.new (M.means memory.new)) }
     {
         if code.len() != self.length {
-            return Ran {
-                steps: 0,
-                refusal: Some(Refusal::InvalidArgument),
-            };
+            return Ran::stopped(0, Refusal::InvalidArgument);
         }
-        let mut steps = 0;
-        while steps < budget {
+        for steps in 0..budget {
             if let Err(refusal) = self.step(code, memory) {
-                return Ran {
-                    steps,
-                    refusal: Some(refusal),
-                };
+                return Ran::stopped(steps, refusal);
             }
-            steps += 1;
         }
-        Ran {
-            steps,
-            refusal: None,
-        }
+        Ran::completed(budget)
     }
 }

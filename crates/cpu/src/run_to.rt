@@ -23,10 +23,7 @@ impl Core {
         let patch = self.patch(code, address);
         match patch.ready() {
             Ok(()) => self.run(patch.bytes(), memory, budget),
-            Err(refusal) => Ran {
-                steps: 0,
-                refusal: Some(refusal),
-            },
+            Err(refusal) => Ran::stopped(0, refusal),
         }
     }
 }

@@ -3,14 +3,14 @@ ghost use Rattle.std.specs.Prelude.{◌≡◌, ◌+◌, ◌%◌, ◌^◌, ◌<�
 ghost use Rattle.cpu.specs.Account.{Ends};
 ghost use Rattle.cpu.specs.Step.{core_state, step_of};
 
-use crate::fetch::trapped_at;
 use crate::processor::Core;
-use isa::operation::Instruction;
 use memory::memory::Memory;
 use refusal::refusal::Refusal;
 
 impl Core {
     // Fetches, decodes and obeys one instruction; refused, it changes nothing.
+    // The proof opens `step_of`, which is closed to proofs about runs.
+    #[tactic(auto, unfolding(crate::specs::Step::step_of))]
     pub fn step<M: Memory>(&mut self, code: &[u8], memory: &mut M) -> Result<(), Refusal>
         ensures { Ends (step_of code.now (core_state self.old (M.means memory.old))) (core_state self.old (M.means memory.old)) result (core_state self.new (M.means memory.new)) }
     {
@@ -18,18 +18,11 @@ impl Core {
             return Err(Refusal::InvalidArgument);
         }
         let (instruction, next) = self.fetch(code)?;
-        match instruction {
-            Instruction::Plain(operation) => match self.registers.act(operation, next, memory) {
-                Ok(pc) => {
-                    self.pc = pc;
-                    Ok(())
-                }
-                Err(trap) => Err(trapped_at(self.pc, trap)),
-            },
-            Instruction::Relative { branch, halfwords } => {
-                self.pc = self.registers.branch(branch, self.pc, halfwords, next);
-                Ok(())
-            }
-        }
+        let pc = self.pc;
+        self.pc = self
+            .registers
+            .obey(instruction, pc, next, memory)
+            .map_err(|trap| trap.at(pc))?;
+        Ok(())
     }
 }

@@ -4,10 +4,16 @@ use Rattle.refusal.specs.declared.refusal.Refusal.{Refusal}
 use Rattle.refusal.specs.declared.refusal.Refusal.TheVariants.{NoInstruction, UnknownInstruction}
 use Rattle.isa.specs.declared.operation.Instruction.{Instruction}
 use Rattle.isa.specs.declared.form.Form.{Form}
+use Rattle.isa.specs.declared.form.Form.TheVariants.{Short, Long}
 use Rattle.isa.specs.Bytes.{half, image, size}
 use Rattle.table.specs.Diagram.{short, long}
 use Rattle.table.specs.Decode.{decode}
 use Rattle.table.specs.Laws.{Spelled}
+
+-- what a form decodes to, by its size
+abbrev pub decoded_form : Form → Option Instruction
+decoded_form (Short h) = decode short h
+decoded_form (Long w) = decode long w
 
 -- an instruction, how many bytes it takes, and the bytes after it
 pub record Front : Type 0 where
@@ -35,11 +41,6 @@ unfoldable pub decoded : List ℕ → Result Front Refusal
 decoded [] = too_few
 decoded (a ∷ []) = too_few
 decoded (a ∷ b ∷ bytes) = cond (nat_lt (half a b) 0xC000) (known (decode short (half a b)) 2 bytes) (decoded_long (half a b) bytes)
-
--- what a call made of its result, at the values behind its references
-abbrev pub on_ok : {T U E : Type 0} → (T → U) → Result T E → Result U E
-on_ok f (Ok x) = Ok (f x)
-on_ok f (Err e) = Err e
 
 -- every form of an instruction decodes to it, whatever follows, which is left as the rest
 abbrev pub ReadsBack : Type 0

@@ -1,8 +1,10 @@
+// What halfwords, words and codes spell.
 #![tactic(auto)]
 
 pub mod bytes;
 pub mod decoded;
 mod fields;
+pub mod form;
 pub mod halfword;
-mod makers;
+mod layouts;
 pub mod word;

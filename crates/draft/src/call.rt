@@ -1,7 +1,7 @@
 // The calls that build a draft, as data; a debt is its tag and label.
 use act::item::Item;
 
-#[derive(Clone, Copy)]
+#[derive(Clone, Copy, Debug, PartialEq, Eq)]
 pub enum Call {
     Append(Item),
     Place(u8),

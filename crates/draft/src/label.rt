@@ -2,7 +2,7 @@
 
 // A free label can be placed or reserved, a reserved one has a debt, and a placed one stands before the item at its
 // place, or at the end.
-#[derive(Clone, Copy)]
+#[derive(Clone, Copy, Debug, PartialEq, Eq)]
 pub enum LabelState {
     Free,
     Reserved,

@@ -1,77 +1,72 @@
 // What a case states: the answer, and the registers and the memory after it.
-use crate::words::{byte, flag, number};
-use effect::registers::Registers;
+use crate::state::State;
+use crate::words::Words;
 use effect::trap::Trap;
 use memory::memory::Memory;
 use refusal::fault::Fault;
-use std::str::SplitWhitespace;
 
-// Writes the bytes that the words give, from the first one's address on.
-fn write_bytes<M: Memory>(words: &mut SplitWhitespace<'_>, memory: &mut M) -> Option<()> {
-    let mut address = number(words)?;
-    for word in words {
-        let byte = u8::from_str_radix(word, 16).ok()?;
-        memory.write(address, byte).ok()?;
-        address = address.wrapping_add(1);
+impl State {
+    // Writes the register that the words give.
+    pub(crate) fn write_register(&mut self, words: &mut Words<'_>) -> Option<()> {
+        let register = words.byte()?;
+        self.registers.set(register, words.number()?);
+        Some(())
     }
-    Some(())
-}
 
-// The one change besides the carry and the PC, if there is any.
-fn change<M: Memory>(
-    words: &mut SplitWhitespace<'_>,
-    registers: &mut Registers,
-    memory: &mut M,
-) -> Option<()> {
-    match words.next() {
-        None => Some(()),
-        Some("register") => {
-            let register = byte(words)?;
-            registers.set(register, number(words)?);
-            Some(())
+    // Writes the bytes that the words give, from the first one's address on.
+    fn write_bytes(&mut self, words: &mut Words<'_>) -> Option<()> {
+        for (address, word) in (words.number()?..).zip(words.rest()) {
+            let byte = u8::from_str_radix(word, 16).ok()?;
+            self.memory.write(address, byte).ok()?;
         }
-        Some("bytes") => write_bytes(words, memory),
-        Some(_) => None,
+        Some(())
+    }
+
+    // Makes the one change besides the carry and the PC, if there is any.
+    fn change(&mut self, words: &mut Words<'_>) -> Option<()> {
+        match words.word() {
+            None => Some(()),
+            Some("register") => self.write_register(words),
+            Some("bytes") => self.write_bytes(words),
+            Some(_) => None,
+        }
+    }
+
+    // Makes of the state before a case what it should be after it, and gives the answer.
+    pub(crate) fn expect(&mut self, words: &mut Words<'_>) -> Option<Result<u32, Trap>> {
+        match words.word()? {
+            "done" => {
+                self.registers.carry = words.flag()?;
+                let pc = words.number()?;
+                self.change(words)?;
+                Some(Ok(pc))
+            }
+            name => trap(name, words).map(Err),
+        }
     }
 }
 
-// What refuses the byte that the words name.
-fn faulted(words: &mut SplitWhitespace<'_>, is_there: bool) -> Option<Trap> {
-    let address = number(words)?;
-    let part = byte(words)?;
-    let fault = if is_there {
-        Fault::ReadOnly { part }
-    } else {
-        Fault::Absent { part }
-    };
-    Some(Trap::Faulted { address, fault })
-}
-
-fn trap(name: &str, words: &mut SplitWhitespace<'_>) -> Option<Trap> {
+fn trap(name: &str, words: &mut Words<'_>) -> Option<Trap> {
     match name {
         "breakpoint" => Some(Trap::Breakpoint),
-        "misaligned" => {
-            let address = number(words)?;
-            Some(Trap::Misaligned { address })
-        }
-        "absent" => faulted(words, false),
-        "read-only" => faulted(words, true),
-        _ => None,
+        "misaligned" => Some(Trap::Misaligned {
+            address: words.number()?,
+        }),
+        _ => Some(Trap::Faulted {
+            address: words.number()?,
+            fault: fault(name, words)?,
+        }),
     }
 }
 
-// Makes of the registers and the memory before what they should be after, and gives the answer.
-pub(crate) fn expect<M: Memory>(
-    words: &mut SplitWhitespace<'_>,
-    registers: &mut Registers,
-    memory: &mut M,
-) -> Option<Result<u32, Trap>> {
-    let name = words.next()?;
-    if name != "done" {
-        return Some(Err(trap(name, words)?));
+fn fault(name: &str, words: &mut Words<'_>) -> Option<Fault> {
+    match name {
+        "absent" => Some(Fault::Absent {
+            part: words.byte()?,
+        }),
+        "read-only" => Some(Fault::ReadOnly {
+            part: words.byte()?,
+        }),
+        _ => None,
     }
-    registers.carry = flag(words)?;
-    let pc = number(words)?;
-    change(words, registers, memory)?;
-    Some(Ok(pc))
 }

@@ -3,10 +3,10 @@
 #![tactic(auto)]
 
 mod case;
-mod compare;
 mod expected;
 mod instruction;
 mod map;
+mod state;
 mod words;
 
 use crate::case::agrees;
@@ -17,9 +17,9 @@ fn main(rt: HostRuntime) -> anyhow::Result<()> {
     let mut wrong: u32 = 0;
     for read in rt.lines(rt.alloc()) {
         let line = read?;
-        let mut memory = map(rt.alloc())?;
-        let mut expected = map(rt.alloc())?;
-        if agrees(line.as_str(), &mut memory, &mut expected).unwrap_or(false) {
+        let memory = map(rt.alloc())?;
+        let other = map(rt.alloc())?;
+        if agrees(line.as_str(), memory, other).unwrap_or(false) {
             same = same.saturating_add(1);
         } else {
             wrong = wrong.saturating_add(1);

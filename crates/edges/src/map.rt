@@ -8,14 +8,10 @@ use std::alloc::{AllocError, Global};
 
 pub(crate) type Map = Split<Bank, Split<Store, Lock<Bank>>>;
 
-fn bytes(heap: Global, from: &[u8]) -> Result<Vec<u8>, AllocError> {
-    from.iter().copied().collect(heap)
-}
-
 pub(crate) fn map(heap: Global) -> Result<Map, AllocError> {
-    let low = bytes(heap, &[0x80, 0x7f, 0xff, 0x00, 0x01, 0xfe])?;
-    let fixed = bytes(heap, &[0x7f, 0x80, 0x00, 0x80, 0xff])?;
-    let high = bytes(heap, &[0xc3, 0xd2, 0x12, 0x34, 0x56, 0x78, 0x9a, 0xbc])?;
+    let low = Vec::from_slice(heap, &[0x80, 0x7f, 0xff, 0x00, 0x01, 0xfe])?;
+    let fixed = Vec::from_slice(heap, &[0x7f, 0x80, 0x00, 0x80, 0xff])?;
+    let high = Vec::from_slice(heap, &[0xc3, 0xd2, 0x12, 0x34, 0x56, 0x78, 0x9a, 0xbc])?;
     let locked = Lock::new(Bank::new(0x10e, high), 0x10e, 2);
     let upper = Split::new(Store::new(0x106, fixed), locked, 0x10e);
     Ok(Split::new(Bank::new(0x100, low), upper, 0x106))

@@ -1,5 +1,5 @@
 -- Loads and stores of one, two and four bytes, the low byte lowest.
-use Rattle.std.specs.Prelude.{◌≡◌, ℕ, ◌+◌, ◌*◌, ◌/◌, ◌%◌, Bool, true, false, cond, Ok, Err, Result, ◌==◌}
+use Rattle.std.specs.Prelude.{ℕ, zero, suc, ◌+◌, ◌*◌, ◌/◌, ◌%◌, Bool, true, false, cond, List, [], ◌∷◌, Ok, Err, Result, ◌==◌}
 use Rattle.effect.specs.declared.trap.Trap.{Trap}
 use Rattle.effect.specs.declared.trap.Trap.TheVariants as trap
 use Rattle.effect.specs.declared.width.Width.{Width}
@@ -58,59 +58,67 @@ and_then (Err q) f = Err q
 abbrev pub byte_at : Meaning → ℕ → Result ℕ Trap
 byte_at m a = at_address a (on_read (m a))
 
--- two bytes, the low one first
-abbrev pub halfword_at : Meaning → ℕ → Result ℕ Trap
-halfword_at m a = and_then (byte_at m a) (λ low. and_then (byte_at m (a + 1)) (λ high. Ok (low + 256 * high)))
-
--- two halfwords, the low one first
-abbrev pub word_at : Meaning → ℕ → Result ℕ Trap
-word_at m a = and_then (halfword_at m a) (λ low. and_then (halfword_at m (a + 2)) (λ high. Ok (low + 65536 * high)))
-
--- the value at an address that is a multiple of its size
-abbrev pub load : Width → Meaning → ℕ → Result ℕ Trap
-load Byte m a = byte_at m a
-load Halfword m a = cond (a % 2 == 0) (halfword_at m a) (Err (trap.Misaligned a))
-load Word m a = cond (a % 4 == 0) (word_at m a) (Err (trap.Misaligned a))
-
 -- whether a byte may be written
 abbrev pub byte_writable : Meaning → ℕ → Result (Unit {0}) Trap
 byte_writable m a = at_address a (on_write (m a))
 
--- both of two bytes, the lower asked first
-abbrev pub halfword_writable : Meaning → ℕ → Result (Unit {0}) Trap
-halfword_writable m a = and_then (byte_writable m a) (λ _. byte_writable m (a + 1))
+-- n bytes from an address on, the lowest read first
+abbrev pub bytes_at : ℕ → Meaning → ℕ → Result (List ℕ) Trap
+bytes_at zero m a = Ok []
+bytes_at (suc n) m a = and_then (byte_at m a) (λ b. and_then (bytes_at n m (a + 1)) (λ bs. Ok (b ∷ bs)))
 
--- all of four bytes, the lowest asked first
-abbrev pub word_writable : Meaning → ℕ → Result (Unit {0}) Trap
-word_writable m a = and_then (halfword_writable m a) (λ _. halfword_writable m (a + 2))
+-- whether n bytes may be written, the lowest asked first
+abbrev pub bytes_writable : ℕ → Meaning → ℕ → Result (Unit {0}) Trap
+bytes_writable zero m a = Ok tt
+bytes_writable (suc n) m a = and_then (byte_writable m a) (λ _. bytes_writable n m (a + 1))
 
--- whether a store there would be made: its bytes are asked about, lowest first
+-- bytes written from an address on
+abbrev pub bytes_written : Meaning → ℕ → List ℕ → Meaning
+bytes_written m a [] = m
+bytes_written m a (b ∷ bs) = bytes_written (written m a b) (a + 1) bs
+
+-- the meaning after bytes were to be written, and asking answered r
+abbrev pub bytes_written_if : Result (Unit {0}) Trap → Meaning → ℕ → List ℕ → Meaning
+bytes_written_if (Ok x) m a bs = bytes_written m a bs
+bytes_written_if (Err q) m a bs = m
+
+-- how many bytes a width is
+abbrev pub size : Width → ℕ
+size Byte = 1
+size Halfword = 2
+size Word = 4
+
+-- the address is a multiple of the width
+abbrev pub aligned : Width → ℕ → Bool
+aligned w a = a % size w == 0
+
+-- an address that is no multiple of the width is refused
+abbrev pub checked : Width → ℕ → Result (Unit {0}) Trap
+checked w a = cond (aligned w a) (Ok tt) (Err (trap.Misaligned a))
+
+-- the number that bytes are, the lowest first
+abbrev pub joined : List ℕ → ℕ
+joined [] = 0
+joined (b ∷ bs) = b + 256 * joined bs
+
+-- the lowest n bytes of a number, the lowest first
+abbrev pub bytes_of : ℕ → ℕ → List ℕ
+bytes_of zero v = []
+bytes_of (suc n) v = v % 256 ∷ bytes_of n (v / 256)
+
+-- the value at an address
+abbrev pub load : Width → Meaning → ℕ → Result ℕ Trap
+load w m a = and_then (checked w a) (λ _. and_then (bytes_at (size w) m a) (λ bs. Ok (joined bs)))
+
+-- whether the value at an address may be written
 abbrev pub writable : Width → Meaning → ℕ → Result (Unit {0}) Trap
-writable Byte m a = byte_writable m a
-writable Halfword m a = cond (a % 2 == 0) (halfword_writable m a) (Err (trap.Misaligned a))
-writable Word m a = cond (a % 4 == 0) (word_writable m a) (Err (trap.Misaligned a))
-
--- two bytes written
-abbrev pub halfword_written : Meaning → ℕ → ℕ → Meaning
-halfword_written m a v = written (written m a (v % 256)) (a + 1) (v / 256)
-
--- four bytes written
-abbrev pub word_written : Meaning → ℕ → ℕ → Meaning
-word_written m a v = halfword_written (halfword_written m a (v % 65536)) (a + 2) (v / 65536)
+writable w m a = and_then (checked w a) (λ _. bytes_writable (size w) m a)
 
 -- a meaning with the low bytes of v at a
 abbrev pub stored : Width → Meaning → ℕ → ℕ → Meaning
-stored Byte m a v = written m a (v % 256)
-stored Halfword m a v = halfword_written m a (v % 65536)
-stored Word m a v = word_written m a v
+stored w m a v = bytes_written m a (bytes_of (size w) v)
 
 -- the meaning after a store whose asking answered r
 abbrev pub stored_if : Result (Unit {0}) Trap → Width → Meaning → ℕ → ℕ → Meaning
-stored_if (Ok x) s m a v = stored s m a v
-stored_if (Err q) s m a v = m
-
--- the address is a multiple of the width
-abbrev pub Aligned : Width → ℕ → Type 0
-Aligned Byte a = Unit {0}
-Aligned Halfword a = a % 2 ≡ 0
-Aligned Word a = a % 4 ≡ 0
+stored_if (Ok x) w m a v = stored w m a v
+stored_if (Err q) w m a v = m

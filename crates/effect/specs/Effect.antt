@@ -4,6 +4,8 @@ use Rattle.effect.specs.declared.trap.Trap.{Trap}
 use Rattle.effect.specs.declared.trap.Trap.TheVariants as trap
 use Rattle.effect.specs.declared.registers.Registers.{Registers}
 use Rattle.effect.specs.Access.{is_store, width_of, widened, load, writable, stored}
+use Rattle.isa.specs.declared.operation.Instruction.{Instruction}
+use Rattle.isa.specs.declared.operation.Instruction.TheVariants.{Plain, Relative}
 use Rattle.isa.specs.declared.operation.Operation.{Operation}
 use Rattle.isa.specs.declared.operation.Operation.TheVariants.{Register, Immediate, Test, Compare, Access, Move, Constant, Jump, Bkpt}
 use Rattle.isa.specs.declared.operation.AccessOp.{AccessOp}
@@ -97,10 +99,6 @@ outcome next s (jumps a rs) = Ok (a, state (file rs s.registers.carry) s.memory)
 abbrev pub effect_on : Operation → ℕ → State → Effect
 effect_on o next s = effect o next s.registers.words s.registers.carry s.memory
 
--- the same, open to proofs
-abbrev pub does_to : Operation → ℕ → State → Effect
-does_to o next s = does o next s.registers.words s.registers.carry s.memory
-
 -- a call from s that answered r and left t did what the outcome o says: refused, it left all as it was
 abbrev pub Ends : Result (ℕ × State) Trap → State → Result ℕ Trap → State → Type 0
 Ends o s (Ok pc) t = o ≡ Ok (pc, t)
@@ -114,6 +112,12 @@ answered (Err t) = Err t
 -- the PC after a branch at pc
 abbrev pub goes_to : Branch → ℕ → ℤ → ℕ → Bool → ℕ
 goes_to b pc halfwords next c = cond (taken b c) (target pc halfwords) next
+
+-- what the instruction at pc does to a state: the next PC and the state then, or why not
+abbrev pub obeyed_at : Instruction → ℕ → ℕ → State → Result (ℕ × State) Trap
+obeyed_at (Plain o) pc next s = outcome next s (effect_on o next s)
+obeyed_at (Relative b halfwords) pc next s =
+    Ok (goes_to b pc halfwords next s.registers.carry, state (file (called b next s.registers.words) s.registers.carry) s.memory)
 
 -- the PC that is answered is even
 abbrev pub Even : Result ℕ Trap → Type 0

@@ -1,3 +1,4 @@
 pub mod Access
 pub mod Effect
+pub mod Trap
 pub mod Worked

@@ -1,13 +1,13 @@
 // Loads and stores, byte by byte, the low byte lowest. A store asks about all its bytes before it writes any.
-ghost use Rattle.std.specs.Prelude.{◌≡◌, ◌%◌};
-ghost use Rattle.effect.specs.Access.{at_address, width_of, is_store, widened, byte_at, halfword_at, word_at, load, byte_writable, halfword_writable, word_writable, writable, halfword_written, word_written, stored, stored_if, Aligned};
-ghost use Rattle.memory.specs.Memory.{written};
+ghost use Rattle.std.specs.Prelude.{◌≡◌, ◌+◌, ◌^◌, ◌≤◌};
+ghost use Rattle.effect.specs.Access.{width_of, is_store, widened, at_address, bytes_at, load, bytes_writable, writable, bytes_written_if, stored_if};
 
 use crate::trap::Trap;
 use crate::width::Width;
-use alu::shifts::{extend_byte, extend_halfword};
+use alu::extend::SignExtend;
 use isa::operation::AccessOp;
 use memory::memory::Memory;
+use refusal::fault::Fault;
 
 pub(crate) fn width_of(op: AccessOp) -> Width
     ensures { result ≡ width_of op }
@@ -22,120 +22,64 @@ pub(crate) fn width_of(op: AccessOp) -> Width
 pub(crate) fn is_store(op: AccessOp) -> bool
     ensures { result ≡ is_store op }
 {
-    match op {
-        AccessOp::StB | AccessOp::StH | AccessOp::StW => true,
-        _ => false,
+    matches!(op, AccessOp::StB | AccessOp::StH | AccessOp::StW)
+}
+
+// What a memory answered of the byte at an address, its fault as a trap.
+fn at_address<T>(address: u32, answer: Result<T, Fault>) -> Result<T, Trap>
+    ensures { result ≡ at_address address answer }
+{
+    answer.map_err(|fault| Trap::Faulted { address, fault })
+}
+
+// The N bytes from an address on.
+fn read<const N: usize, M: Memory>(memory: &M, at: u32) -> Result<[u8; N], Trap>
+    requires { at + N ≤ 2 ^ 32 }
+    ensures { result ≡ bytes_at N (M.means memory.now) at }
+{
+    let mut bytes = [0; N];
+    for i in 0..N {
+        let address = at + i as u32;
+        // by index: the checker does not follow what is written through `iter_mut`
+        bytes[i] = at_address(address, memory.read(address))?;
     }
+    Ok(bytes)
 }
 
-fn read_byte<M: Memory>(memory: &M, at: u32) -> Result<u8, Trap>
-    ensures { result ≡ byte_at (M.means memory.now) at }
+// Whether `count` bytes from an address on may be written.
+fn ask<M: Memory>(memory: &M, at: u32, count: usize) -> Result<(), Trap>
+    requires { at + count ≤ 2 ^ 32 }
+    ensures { result ≡ bytes_writable count (M.means memory.now) at }
 {
-    match memory.read(at) {
-        Ok(byte) => Ok(byte),
-        Err(fault) => Err(Trap::Faulted { address: at, fault }),
+    for i in 0..count {
+        let address = at + i as u32;
+        at_address(address, memory.ask(address).on_write())?;
     }
+    Ok(())
 }
 
-fn read_halfword<M: Memory>(memory: &M, at: u32) -> Result<u16, Trap>
-    requires { at % 2 ≡ 0 }
-    ensures { result ≡ halfword_at (M.means memory.now) at }
+// Writes the N bytes from an address on where all of them may be written.
+fn write<const N: usize, M: Memory>(memory: &mut M, at: u32, bytes: [u8; N]) -> Result<(), Trap>
+    requires { at + N ≤ 2 ^ 32 }
+    ensures answer { result ≡ bytes_writable N (M.means memory.old) at }
+    ensures after { M.means memory.new ≡ bytes_written_if (bytes_writable N (M.means memory.old) at) (M.means memory.old) at bytes.entry }
 {
-    let low = read_byte(memory, at)?;
-    let high = read_byte(memory, at + 1)?;
-    Ok(low as u16 + 256 * high as u16)
-}
-
-fn read_word<M: Memory>(memory: &M, at: u32) -> Result<u32, Trap>
-    requires { at % 4 ≡ 0 }
-    ensures { result ≡ word_at (M.means memory.now) at }
-{
-    let low = read_halfword(memory, at)?;
-    let high = read_halfword(memory, at + 2)?;
-    Ok(low as u32 + 65536 * high as u32)
+    ask(memory, at, N)?;
+    for (i, &byte) in bytes.iter().enumerate() {
+        let _ = memory.write(at + i as u32, byte);
+    }
+    Ok(())
 }
 
 // The value at `at`, zero extended.
 pub(crate) fn load<M: Memory>(memory: &M, width: Width, at: u32) -> Result<u32, Trap>
     ensures { result ≡ load width (M.means memory.now) at }
 {
+    width.check(at)?;
     match width {
-        Width::Byte => {
-            let byte = read_byte(memory, at)?;
-            Ok(byte as u32)
-        }
-        Width::Halfword if at % 2 == 0 => {
-            let half = read_halfword(memory, at)?;
-            Ok(half as u32)
-        }
-        Width::Word if at % 4 == 0 => read_word(memory, at),
-        _ => Err(Trap::Misaligned { address: at }),
-    }
-}
-
-fn ask_byte<M: Memory>(memory: &M, at: u32) -> Result<(), Trap>
-    ensures { result ≡ byte_writable (M.means memory.now) at }
-{
-    match memory.ask(at).on_write() {
-        Ok(()) => Ok(()),
-        Err(fault) => Err(Trap::Faulted { address: at, fault }),
-    }
-}
-
-fn ask_halfword<M: Memory>(memory: &M, at: u32) -> Result<(), Trap>
-    requires { at % 2 ≡ 0 }
-    ensures { result ≡ halfword_writable (M.means memory.now) at }
-{
-    ask_byte(memory, at)?;
-    ask_byte(memory, at + 1)
-}
-
-fn ask_word<M: Memory>(memory: &M, at: u32) -> Result<(), Trap>
-    requires { at % 4 ≡ 0 }
-    ensures { result ≡ word_writable (M.means memory.now) at }
-{
-    ask_halfword(memory, at)?;
-    ask_halfword(memory, at + 2)
-}
-
-// Whether a store at `at` would be made.
-fn ask<M: Memory>(memory: &M, width: Width, at: u32) -> Result<(), Trap>
-    ensures { result ≡ writable width (M.means memory.now) at }
-{
-    match width {
-        Width::Byte => ask_byte(memory, at),
-        Width::Halfword if at % 2 == 0 => ask_halfword(memory, at),
-        Width::Word if at % 4 == 0 => ask_word(memory, at),
-        _ => Err(Trap::Misaligned { address: at }),
-    }
-}
-
-fn write_halfword<M: Memory>(memory: &mut M, at: u32, value: u16)
-    requires { at % 2 ≡ 0 }
-    ensures { M.means memory.new ≡ halfword_written (M.means memory.old) at value }
-{
-    let _ = memory.write(at, (value % 256) as u8);
-    let _ = memory.write(at + 1, (value / 256) as u8);
-}
-
-fn write_word<M: Memory>(memory: &mut M, at: u32, value: u32)
-    requires { at % 4 ≡ 0 }
-    ensures { M.means memory.new ≡ word_written (M.means memory.old) at value }
-{
-    write_halfword(memory, at, (value % 65536) as u16);
-    write_halfword(memory, at + 2, (value / 65536) as u16);
-}
-
-fn write<M: Memory>(memory: &mut M, width: Width, at: u32, value: u32)
-    requires { Aligned width at }
-    ensures { M.means memory.new ≡ stored width (M.means memory.old) at value }
-{
-    match width {
-        Width::Byte => {
-            let _ = memory.write(at, (value % 256) as u8);
-        }
-        Width::Halfword => write_halfword(memory, at, (value % 65536) as u16),
-        Width::Word => write_word(memory, at, value),
+        Width::Byte => Ok(u32::from(u8::from_le_bytes(read(memory, at)?))),
+        Width::Halfword => Ok(u32::from(u16::from_le_bytes(read(memory, at)?))),
+        Width::Word => Ok(u32::from_le_bytes(read(memory, at)?)),
     }
 }
 
@@ -149,18 +93,23 @@ pub(crate) fn store<M: Memory>(
     ensures answer { result ≡ writable width (M.means memory.old) at }
     ensures after { M.means memory.new ≡ stored_if (writable width (M.means memory.old) at) width (M.means memory.old) at value }
 {
-    ask(memory, width, at)?;
-    write(memory, width, at, value);
-    Ok(())
+    width.check(at)?;
+    let [a, b, c, d] = value.to_le_bytes();
+    match width {
+        Width::Byte => write(memory, at, [a]),
+        Width::Halfword => write(memory, at, [a, b]),
+        Width::Word => write(memory, at, [a, b, c, d]),
+    }
 }
 
 // What a load makes of the value it found.
 pub(crate) fn widen(op: AccessOp, value: u32) -> u32
     ensures { result ≡ widened op value }
 {
+    let [low, high, ..] = value.to_le_bytes();
     match op {
-        AccessOp::LdBs => extend_byte((value % 256) as u8),
-        AccessOp::LdHs => extend_halfword((value % 65536) as u16),
+        AccessOp::LdBs => low.sign_extend(),
+        AccessOp::LdHs => u16::from_le_bytes([low, high]).sign_extend(),
         _ => value,
     }
 }

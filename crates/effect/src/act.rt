@@ -1,6 +1,6 @@
 // What an operation does.
 ghost use Rattle.std.specs.Prelude.{◌≡◌, ◌+◌, ◌%◌, ◌^◌, ◌<◌};
-ghost use Rattle.effect.specs.Effect.{state, outcome, effect_on, does_to, accesses, answered, Ends, Even};
+ghost use Rattle.effect.specs.Effect.{state, outcome, effect_on, accesses, answered, Ends, Even};
 
 use crate::access::*;
 use crate::registers::Registers;
@@ -12,6 +12,8 @@ use memory::memory::Memory;
 
 impl Registers {
     // Does the operation, and answers the next program counter.
+    // The proof opens `effect`, which is closed to proofs that need not look inside.
+    #[tactic(auto, unfolding(crate::specs::Effect::effect))]
     pub fn act<M: Memory>(
         &mut self,
         operation: Operation,
@@ -20,18 +22,6 @@ impl Registers {
     ) -> Result<u32, Trap>
         ensures done { Ends (outcome next (state self.old (M.means memory.old)) (effect_on operation next (state self.old (M.means memory.old)))) (state self.old (M.means memory.old)) result (state self.new (M.means memory.new)) }
         ensures even { next % 2 ≡ 0 → Even result }
-    {
-        self.act_arms(operation, next, memory)
-    }
-
-    fn act_arms<M: Memory>(
-        &mut self,
-        operation: Operation,
-        next: u32,
-        memory: &mut M,
-    ) -> Result<u32, Trap>
-        ensures even { next % 2 ≡ 0 → Even result }
-        ensures done { Ends (outcome next (state self.old (M.means memory.old)) (does_to operation next (state self.old (M.means memory.old)))) (state self.old (M.means memory.old)) result (state self.new (M.means memory.new)) }
     {
         match operation {
             Operation::Register { op, z, x, y } => {
@@ -67,7 +57,7 @@ impl Registers {
             }
             Operation::Jump { op, x } => {
                 let target = even(self.get(x));
-                if let JumpOp::Jsr = op {
+                if matches!(op, JumpOp::Jsr) {
                     self.set(15, next);
                 }
                 Ok(target)

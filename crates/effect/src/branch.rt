@@ -12,12 +12,11 @@ impl Registers {
         ensures { (result ≡ goes_to branch pc halfwords next self.old.carry) × (self.new ≡ file (called branch next self.old.words) self.old.carry) }
     {
         let is_taken = match branch {
-            Branch::Br => true,
+            Branch::Br | Branch::Bsr => true,
             Branch::Bt => self.carry,
             Branch::Bf => !self.carry,
-            Branch::Bsr => true,
         };
-        if let Branch::Bsr = branch {
+        if matches!(branch, Branch::Bsr) {
             self.set(15, next);
         }
         if is_taken {

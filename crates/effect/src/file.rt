@@ -7,15 +7,16 @@ impl Registers {
     pub fn get(&self, x: u8) -> u32
         ensures { result ≡ slice_index self.now.words x }
     {
-        if x < 32 { self.words[x as usize] } else { 0 }
+        self.words.get(usize::from(x)).copied().unwrap_or(0)
     }
 
     pub fn set(&mut self, z: u8, value: u32)
         ensures words { self.new.words ≡ slice_set self.old.words z value }
         ensures carry { self.new.carry ≡ self.old.carry }
     {
+        // by index: the checker does not follow what is written through `get_mut`
         if z < 32 {
-            self.words[z as usize] = value;
+            self.words[usize::from(z)] = value;
         }
     }
 }

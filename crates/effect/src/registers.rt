@@ -1,5 +1,5 @@
 // The registers and the carry of a core.
-#[derive(Clone, Copy)]
+#[derive(Clone, Copy, Debug, PartialEq, Eq)]
 pub struct Registers {
     pub words: [u32; 32],
     pub carry: bool,

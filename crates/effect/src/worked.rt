@@ -2,8 +2,8 @@
 ghost use Rattle.effect.specs.Worked.{WorkedJsr};
 
 // The jump to a register that it links itself uses the old value, with bit 0 cleared.
-pub fn worked_jsr() -> u8
+// The proof opens `effect` to compute it.
+#[tactic(auto, unfolding(crate::specs::Effect::effect))]
+pub fn worked_jsr()
     ensures { WorkedJsr }
-{
-    0
-}
+{}

@@ -1,1 +1,3 @@
 pub mod Displacements
+pub mod Fields
+pub mod Halfwords

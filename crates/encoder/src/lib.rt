@@ -1,8 +1,10 @@
+// The forms of operations and of branches, by the table's rows.
 #![tactic(auto)]
 
 pub mod branch;
-mod fields;
+mod held;
+mod layout;
 pub mod long;
-mod long_layouts;
+mod operands;
+mod row;
 pub mod short;
-mod short_layouts;

@@ -1,20 +1,22 @@
 // The first long form of an operation.
-ghost use Rattle.std.specs.Prelude.{◌≡◌, ◌<◌, true, false, [], ◌∷◌};
+ghost use Rattle.std.specs.Prelude.{◌≡◌, true, false};
 ghost use Rattle.isa.specs.Normal.{commutes};
 ghost use Rattle.table.specs.Diagram.{long};
-ghost use Rattle.table.specs.Table.{row, long_zxy, register_rows, immediate_rows, access_rows};
-ghost use Rattle.table.specs.Encode.{first, sized_rows, form_of};
+ghost use Rattle.table.specs.Table.{register_rows, immediate_rows, test_rows, access_rows, constant_rows};
+ghost use Rattle.table.specs.Encode.{form_of};
+ghost use Rattle.encoder.specs.Forms.{form_by};
 
-use crate::long_layouts::*;
+use crate::layout::Layout::*;
+use crate::operands::Operands;
+use crate::row::Row;
 use isa::operation::*;
-use isa::rule::Rule;
+use isa::rule::Rule::*;
 
-// The word of an operation's one long row.
-fn register_word(op: RegisterOp) -> u32
-    ensures word { sized_rows long (register_rows op) ≡ row long_zxy result ∷ [] }
-    ensures bound { result < 0xf0000000 }
+// The sources share one range of registers, so exchanging them never helps.
+fn register_form(op: RegisterOp, operands: Operands) -> Option<u32>
+    ensures { result ≡ form_by long (commutes op) (register_rows op) operands }
 {
-    match op {
+    let word = match op {
         RegisterOp::Addu => 0xc400_0020,
         RegisterOp::Addc => 0xc400_0040,
         RegisterOp::Subu => 0xc400_0080,
@@ -28,48 +30,56 @@ fn register_word(op: RegisterOp) -> u32
         RegisterOp::Mult => 0xc400_8420,
         RegisterOp::Ixh => 0xc400_0820,
         RegisterOp::Ixw => 0xc400_0840,
-    }
-}
-
-fn register_form(op: RegisterOp, z: u8, x: u8, y: u8) -> Option<u32>
-    ensures { result ≡ first (commutes op) (sized_rows long (register_rows op)) z x y 0 }
-{
-    let w = register_word(op);
-    let exchanged = if op.commutes() {
-        long_zxy(w, z, y, x)
-    } else {
-        None
     };
-    long_zxy(w, z, x, y).or(exchanged)
+    Row::new(LongZxy, word).held(operands)
 }
 
-fn immediate_form(op: ImmediateOp, z: u8, x: u8, n: u32) -> Option<u32>
-    ensures { result ≡ first false (sized_rows long (immediate_rows op)) z x 0 n }
+fn immediate_form(op: ImmediateOp, operands: Operands) -> Option<u32>
+    ensures { result ≡ form_by long false (immediate_rows op) operands }
 {
     match op {
-        ImmediateOp::Addi => long_zx_v12(0xe400_0000, Rule::LessOne, z, x, n),
-        ImmediateOp::Andi => long_zx_v12(0xe400_2000, Rule::Plain, z, x, n),
-        ImmediateOp::Lsli => long_zx_v5(0xc400_4820, z, x, n),
-        ImmediateOp::Lsri => long_zx_v5(0xc400_4840, z, x, n),
-        ImmediateOp::Asri => long_zx_v5(0xc400_4880, z, x, n),
-        ImmediateOp::Rotli => long_zx_v5(0xc400_4900, z, x, n),
-        ImmediateOp::Bclri => long_zx_v5(0xc400_2820, z, x, n),
-        ImmediateOp::Bseti => long_zx_v5(0xc400_2840, z, x, n),
+        ImmediateOp::Addi => Row::new(LongZxV12, 0xe400_0000).by(LessOne).held(operands),
+        ImmediateOp::Andi => Row::new(LongZxV12, 0xe400_2000).held(operands),
+        ImmediateOp::Lsli => Row::new(LongZxV5, 0xc400_4820).held(operands),
+        ImmediateOp::Lsri => Row::new(LongZxV5, 0xc400_4840).held(operands),
+        ImmediateOp::Asri => Row::new(LongZxV5, 0xc400_4880).held(operands),
+        ImmediateOp::Rotli => Row::new(LongZxV5, 0xc400_4900).held(operands),
+        ImmediateOp::Bclri => Row::new(LongZxV5, 0xc400_2820).held(operands),
+        ImmediateOp::Bseti => Row::new(LongZxV5, 0xc400_2840).held(operands),
     }
 }
 
-fn access_form(op: AccessOp, z: u8, x: u8, n: u32) -> Option<u32>
-    ensures { result ≡ first false (sized_rows long (access_rows op)) z x 0 n }
+fn access_form(op: AccessOp, operands: Operands) -> Option<u32>
+    ensures { result ≡ form_by long false (access_rows op) operands }
 {
     match op {
-        AccessOp::LdB => long_zx_v12(0xd800_0000, Rule::Plain, z, x, n),
-        AccessOp::LdH => long_zx_v12(0xd800_1000, Rule::Half, z, x, n),
-        AccessOp::LdW => long_zx_v12(0xd800_2000, Rule::Quarter, z, x, n),
-        AccessOp::LdBs => long_zx_v12(0xd800_4000, Rule::Plain, z, x, n),
-        AccessOp::LdHs => long_zx_v12(0xd800_5000, Rule::Half, z, x, n),
-        AccessOp::StB => long_zx_v12(0xdc00_0000, Rule::Plain, z, x, n),
-        AccessOp::StH => long_zx_v12(0xdc00_1000, Rule::Half, z, x, n),
-        AccessOp::StW => long_zx_v12(0xdc00_2000, Rule::Quarter, z, x, n),
+        AccessOp::LdB => Row::new(LongZxV12, 0xd800_0000).held(operands),
+        AccessOp::LdH => Row::new(LongZxV12, 0xd800_1000).by(Half).held(operands),
+        AccessOp::LdW => Row::new(LongZxV12, 0xd800_2000).by(Quarter).held(operands),
+        AccessOp::LdBs => Row::new(LongZxV12, 0xd800_4000).held(operands),
+        AccessOp::LdHs => Row::new(LongZxV12, 0xd800_5000).by(Half).held(operands),
+        AccessOp::StB => Row::new(LongZxV12, 0xdc00_0000).held(operands),
+        AccessOp::StH => Row::new(LongZxV12, 0xdc00_1000).by(Half).held(operands),
+        AccessOp::StW => Row::new(LongZxV12, 0xdc00_2000).by(Quarter).held(operands),
+    }
+}
+
+fn test_form(op: TestOp, operands: Operands) -> Option<u32>
+    ensures { result ≡ form_by long false (test_rows op) operands }
+{
+    match op {
+        TestOp::Btsti => Row::new(LongXV5, 0xc400_2880).held(operands),
+        TestOp::Cmplti => Row::new(LongXV16, 0xeb20_0000).by(LessOne).held(operands),
+        TestOp::Cmpnei => Row::new(LongXV16, 0xeb40_0000).held(operands),
+    }
+}
+
+fn constant_form(op: ConstantOp, operands: Operands) -> Option<u32>
+    ensures { result ≡ form_by long false (constant_rows op) operands }
+{
+    match op {
+        ConstantOp::Movi => Row::new(LongZV16, 0xea00_0000).held(operands),
+        ConstantOp::Movih => Row::new(LongZV16, 0xea20_0000).held(operands),
     }
 }
 
@@ -77,36 +87,15 @@ fn access_form(op: AccessOp, z: u8, x: u8, n: u32) -> Option<u32>
 pub fn long_form(operation: Operation) -> Option<u32>
     ensures { result ≡ form_of long operation }
 {
+    let operands = Operands::from(operation);
     match operation {
-        Operation::Register { op, z, x, y } => register_form(op, z, x, y),
-        Operation::Immediate { op, z, x, n } => immediate_form(op, z, x, n),
-        Operation::Test {
-            op: TestOp::Btsti,
-            x,
-            n,
-        } => long_x_v5(0xc400_2880, x, n),
-        Operation::Test {
-            op: TestOp::Cmplti,
-            x,
-            n,
-        } => { long_x_v16(0xeb20_0000, Rule::LessOne, x, n) }
-        Operation::Test {
-            op: TestOp::Cmpnei,
-            x,
-            n,
-        } => long_x_v16(0xeb40_0000, Rule::Plain, x, n),
-        Operation::Access { op, z, x, n } => access_form(op, z, x, n),
-        Operation::Move { z, x } => long_zx_v5(0xc400_4820, z, x, 0),
-        Operation::Constant {
-            op: ConstantOp::Movi,
-            z,
-            n,
-        } => long_z_v16(0xea00_0000, z, n),
-        Operation::Constant {
-            op: ConstantOp::Movih,
-            z,
-            n,
-        } => long_z_v16(0xea20_0000, z, n),
+        Operation::Register { op, .. } => register_form(op, operands),
+        Operation::Immediate { op, .. } => immediate_form(op, operands),
+        Operation::Test { op, .. } => test_form(op, operands),
+        Operation::Access { op, .. } => access_form(op, operands),
+        // a move has no long word of its own: it is a shift left by 0, as the table has it
+        Operation::Move { .. } => immediate_form(ImmediateOp::Lsli, operands),
+        Operation::Constant { op, .. } => constant_form(op, operands),
         Operation::Compare { .. } | Operation::Jump { .. } | Operation::Bkpt => None,
     }
 }

@@ -2,85 +2,130 @@
 ghost use Rattle.std.specs.Prelude.{◌≡◌, true, false};
 ghost use Rattle.isa.specs.Normal.{commutes};
 ghost use Rattle.table.specs.Diagram.{short};
-ghost use Rattle.table.specs.Table.{register_rows, immediate_rows, test_rows, access_rows};
-ghost use Rattle.table.specs.Encode.{first, sized_rows, form_of};
+ghost use Rattle.table.specs.Table.{register_rows, immediate_rows, test_rows, compare_rows, access_rows, constant_rows, jump_rows};
+ghost use Rattle.table.specs.Encode.{form_of};
+ghost use Rattle.encoder.specs.Forms.{form_by};
 
-use crate::short_layouts::*;
+use crate::layout::Layout::*;
+use crate::operands::Operands;
+use crate::row::Row;
 use isa::operation::*;
-use isa::rule::Rule;
+use isa::rule::Rule::*;
 
-fn register_form(op: RegisterOp, z: u8, x: u8, y: u8) -> Option<u16>
-    ensures { result ≡ first (commutes op) (sized_rows short (register_rows op)) z x y 0 }
+fn register_form(op: RegisterOp, operands: Operands) -> Option<u32>
+    ensures { result ≡ form_by short (commutes op) (register_rows op) operands }
 {
     match op {
-        RegisterOp::Addu => low_zxy(0x5800, z, x, y)
-            .or(low_zxy(0x5800, z, y, x))
-            .or(zz_y(0x6000, z, x, y))
-            .or(zz_y(0x6000, z, y, x)),
-        RegisterOp::Addc => zz_y(0x6001, z, x, y).or(zz_y(0x6001, z, y, x)),
-        RegisterOp::Subu => low_zxy(0x5801, z, x, y).or(zz_y(0x6002, z, x, y)),
-        RegisterOp::And => zz_y(0x6800, z, x, y).or(zz_y(0x6800, z, y, x)),
-        RegisterOp::Andn => zz_y(0x6801, z, x, y),
-        RegisterOp::Or => zz_y(0x6c00, z, x, y).or(zz_y(0x6c00, z, y, x)),
-        RegisterOp::Lsl => zz_y(0x7000, z, x, y),
-        RegisterOp::Lsr => zz_y(0x7001, z, x, y),
-        RegisterOp::Asr => zz_y(0x7002, z, x, y),
-        RegisterOp::Rotl => zz_y(0x7003, z, x, y),
-        RegisterOp::Mult => zz_y(0x7c00, z, x, y).or(zz_y(0x7c00, z, y, x)),
+        RegisterOp::Addu => Row::new(LowZxy, 0x5800)
+            .held(operands)
+            .or_else(|| Row::new(ZzY, 0x6000).held_either(operands)),
+        RegisterOp::Addc => Row::new(ZzY, 0x6001).held_either(operands),
+        RegisterOp::Subu => Row::new(LowZxy, 0x5801)
+            .held(operands)
+            .or_else(|| Row::new(ZzY, 0x6002).held(operands)),
+        RegisterOp::And => Row::new(ZzY, 0x6800).held_either(operands),
+        RegisterOp::Andn => Row::new(ZzY, 0x6801).held(operands),
+        RegisterOp::Or => Row::new(ZzY, 0x6c00).held_either(operands),
+        RegisterOp::Lsl => Row::new(ZzY, 0x7000).held(operands),
+        RegisterOp::Lsr => Row::new(ZzY, 0x7001).held(operands),
+        RegisterOp::Asr => Row::new(ZzY, 0x7002).held(operands),
+        RegisterOp::Rotl => Row::new(ZzY, 0x7003).held(operands),
+        RegisterOp::Mult => Row::new(ZzY, 0x7c00).held_either(operands),
         RegisterOp::Ixh | RegisterOp::Ixw => None,
     }
 }
 
-fn immediate_form(op: ImmediateOp, z: u8, x: u8, n: u32) -> Option<u16>
-    ensures { result ≡ first false (sized_rows short (immediate_rows op)) z x 0 n }
+fn immediate_form(op: ImmediateOp, operands: Operands) -> Option<u32>
+    ensures { result ≡ form_by short false (immediate_rows op) operands }
 {
     match op {
-        ImmediateOp::Addi => low_zx_v3(0x5802, Rule::LessOne, z, x, n)
-            .or(low_zz_v8(0x2000, Rule::LessOne, z, x, n))
-            .or(low_z_r14_v8(0x1800, Rule::Quarter, z, x, n))
-            .or(r14_r14_v2_v5(0x1400, Rule::Quarter, z, x, n)),
-        ImmediateOp::Lsli => low_zx_v5(0x4000, Rule::Plain, z, x, n),
-        ImmediateOp::Lsri => low_zx_v5(0x4800, Rule::Plain, z, x, n),
-        ImmediateOp::Asri => low_zx_v5(0x5000, Rule::Plain, z, x, n),
-        ImmediateOp::Bclri => low_zz_v5(0x3880, z, x, n),
-        ImmediateOp::Bseti => low_zz_v5(0x38a0, z, x, n),
+        ImmediateOp::Addi => Row::new(LowZxV3, 0x5802)
+            .by(LessOne)
+            .held(operands)
+            .or_else(|| Row::new(LowZzV8, 0x2000).by(LessOne).held(operands))
+            .or_else(|| Row::new(LowZR14V8, 0x1800).by(Quarter).held(operands))
+            .or_else(|| Row::new(R14R14V2V5, 0x1400).by(Quarter).held(operands)),
+        ImmediateOp::Lsli => Row::new(LowZxV5, 0x4000).held(operands),
+        ImmediateOp::Lsri => Row::new(LowZxV5, 0x4800).held(operands),
+        ImmediateOp::Asri => Row::new(LowZxV5, 0x5000).held(operands),
+        ImmediateOp::Bclri => Row::new(LowZzV5, 0x3880).held(operands),
+        ImmediateOp::Bseti => Row::new(LowZzV5, 0x38a0).held(operands),
         ImmediateOp::Andi | ImmediateOp::Rotli => None,
     }
 }
 
-fn test_form(op: TestOp, x: u8, n: u32) -> Option<u16>
-    ensures { result ≡ first false (sized_rows short (test_rows op)) 0 x 0 n }
+fn test_form(op: TestOp, operands: Operands) -> Option<u32>
+    ensures { result ≡ form_by short false (test_rows op) operands }
 {
     match op {
-        TestOp::Btsti => low_x_v5(0x38c0, Rule::Plain, x, n),
-        TestOp::Cmplti => low_x_v5(0x3820, Rule::LessOne, x, n),
-        TestOp::Cmpnei => low_x_v5(0x3840, Rule::Plain, x, n),
+        TestOp::Btsti => Row::new(LowXV5, 0x38c0).held(operands),
+        TestOp::Cmplti => Row::new(LowXV5, 0x3820).by(LessOne).held(operands),
+        TestOp::Cmpnei => Row::new(LowXV5, 0x3840).held(operands),
     }
 }
 
-fn access_form(op: AccessOp, z: u8, x: u8, n: u32) -> Option<u16>
-    ensures { result ≡ first false (sized_rows short (access_rows op)) z x 0 n }
+fn access_form(op: AccessOp, operands: Operands) -> Option<u32>
+    ensures { result ≡ form_by short false (access_rows op) operands }
 {
     match op {
-        AccessOp::LdB => low_zx_v5(0x8000, Rule::Plain, z, x, n),
-        AccessOp::LdH => low_zx_v5(0x8800, Rule::Half, z, x, n),
-        AccessOp::LdW => low_z_r14_v3_v5(0x9800, Rule::Quarter, z, x, n).or(low_zx_v5(
-            0x9000,
-            Rule::Quarter,
-            z,
-            x,
-            n,
-        )),
-        AccessOp::StB => low_zx_v5(0xa000, Rule::Plain, z, x, n),
-        AccessOp::StH => low_zx_v5(0xa800, Rule::Half, z, x, n),
-        AccessOp::StW => low_z_r14_v3_v5(0xb800, Rule::Quarter, z, x, n).or(low_zx_v5(
-            0xb000,
-            Rule::Quarter,
-            z,
-            x,
-            n,
-        )),
+        AccessOp::LdB => Row::new(LowZxV5, 0x8000).held(operands),
+        AccessOp::LdH => Row::new(LowZxV5, 0x8800).by(Half).held(operands),
+        AccessOp::LdW => Row::new(LowZR14V3V5, 0x9800)
+            .by(Quarter)
+            .held(operands)
+            .or_else(|| Row::new(LowZxV5, 0x9000).by(Quarter).held(operands)),
+        AccessOp::StB => Row::new(LowZxV5, 0xa000).held(operands),
+        AccessOp::StH => Row::new(LowZxV5, 0xa800).by(Half).held(operands),
+        AccessOp::StW => Row::new(LowZR14V3V5, 0xb800)
+            .by(Quarter)
+            .held(operands)
+            .or_else(|| Row::new(LowZxV5, 0xb000).by(Quarter).held(operands)),
         AccessOp::LdBs | AccessOp::LdHs => None,
+    }
+}
+
+fn compare_form(op: CompareOp, operands: Operands) -> Option<u32>
+    ensures { result ≡ form_by short false (compare_rows op) operands }
+{
+    match op {
+        CompareOp::Cmphs => Row::new(YX, 0x6400).held(operands),
+        CompareOp::Cmplt => Row::new(YX, 0x6401).held(operands),
+        CompareOp::Cmpne => Row::new(YX, 0x6402).held(operands),
+    }
+}
+
+fn constant_form(op: ConstantOp, operands: Operands) -> Option<u32>
+    ensures { result ≡ form_by short false (constant_rows op) operands }
+{
+    match op {
+        ConstantOp::Movi => Row::new(LowZV8, 0x3000).held(operands),
+        ConstantOp::Movih => None,
+    }
+}
+
+fn jump_form(op: JumpOp, operands: Operands) -> Option<u32>
+    ensures { result ≡ form_by short false (jump_rows op) operands }
+{
+    match op {
+        JumpOp::Jmp => Row::new(XAlone, 0x7800).held(operands),
+        JumpOp::Jsr => Row::new(XAlone, 0x7801).held(operands),
+    }
+}
+
+fn first_form(operation: Operation) -> Option<u32>
+    ensures { result ≡ form_of short operation }
+{
+    let operands = Operands::from(operation);
+    match operation {
+        Operation::Register { op, .. } => register_form(op, operands),
+        Operation::Immediate { op, .. } => immediate_form(op, operands),
+        Operation::Test { op, .. } => test_form(op, operands),
+        Operation::Compare { op, .. } => compare_form(op, operands),
+        Operation::Access { op, .. } => access_form(op, operands),
+        Operation::Move { .. } => Row::new(ZX, 0x6c03).held(operands),
+        Operation::Constant { op, .. } => constant_form(op, operands),
+        Operation::Jump { op, .. } => jump_form(op, operands),
+        Operation::Bkpt => Some(0x0000),
     }
 }
 
@@ -88,38 +133,5 @@ fn access_form(op: AccessOp, z: u8, x: u8, n: u32) -> Option<u16>
 pub fn short_form(operation: Operation) -> Option<u16>
     ensures { result ≡ form_of short operation }
 {
-    match operation {
-        Operation::Register { op, z, x, y } => register_form(op, z, x, y),
-        Operation::Immediate { op, z, x, n } => immediate_form(op, z, x, n),
-        Operation::Test { op, x, n } => test_form(op, x, n),
-        Operation::Compare {
-            op: CompareOp::Cmphs,
-            x,
-            y,
-        } => y_x(0x6400, x, y),
-        Operation::Compare {
-            op: CompareOp::Cmplt,
-            x,
-            y,
-        } => y_x(0x6401, x, y),
-        Operation::Compare {
-            op: CompareOp::Cmpne,
-            x,
-            y,
-        } => y_x(0x6402, x, y),
-        Operation::Access { op, z, x, n } => access_form(op, z, x, n),
-        Operation::Move { z, x } => z_x(0x6c03, z, x),
-        Operation::Constant {
-            op: ConstantOp::Movi,
-            z,
-            n,
-        } => low_z_v8(0x3000, z, n),
-        Operation::Constant {
-            op: ConstantOp::Movih,
-            ..
-        } => None,
-        Operation::Jump { op: JumpOp::Jmp, x } => x_alone(0x7800, x),
-        Operation::Jump { op: JumpOp::Jsr, x } => x_alone(0x7801, x),
-        Operation::Bkpt => Some(0x0000),
-    }
+    Some(first_form(operation)? as u16)
 }

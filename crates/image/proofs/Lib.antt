@@ -1,3 +1,1 @@
-pub mod Hexes
-pub mod Images
-pub mod Places
+mod Digits

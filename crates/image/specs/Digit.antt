@@ -1,7 +1,8 @@
 -- Hexadecimal digits, and what a byte of the text does.
-use Rattle.std.specs.Prelude.{ℕ, ◌+◌, ◌-◌, ◌*◌, ◌%◌, Bool, cond, ◌&&◌, ◌||◌, Some, None, Option, ◌==◌, bit_or, nat_le}
+use Rattle.std.specs.Prelude.{ℕ, ◌+◌, ◌-◌, ◌*◌, ◌%◌, Bool, cond, ◌&&◌, ◌||◌, Some, None, Ok, Err, Option, Result, ◌==◌, bit_or, nat_le}
 use Rattle.image.specs.declared.digit.Turn.{Turn}
-use Rattle.image.specs.declared.digit.Turn.TheVariants.{Gap, High, Byte, Wrong}
+use Rattle.image.specs.declared.digit.Turn.TheVariants.{Gap, High, Byte}
+use Rattle.image.specs.declared.trouble.Cause.{Cause}
 use Rattle.image.specs.declared.trouble.Cause.TheVariants.{BadDigit, HalfByte}
 
 -- within a range
@@ -17,12 +18,12 @@ abbrev pub gap : ℕ → Bool
 gap b = b == 32 || b == 10
 
 -- after the high digit of a byte, or between bytes, a byte that is the given digit or none
-abbrev pub turn : Option ℕ → Option ℕ → Bool → Turn
-turn None None g = cond g Gap (Wrong BadDigit)
-turn None (Some d) g = High d
-turn (Some h) None g = cond g (Wrong HalfByte) (Wrong BadDigit)
-turn (Some h) (Some d) g = Byte (bit_or (h * 16 % 256) d)
+abbrev pub turn : Option ℕ → Option ℕ → Bool → Result Turn Cause
+turn None None g = cond g (Ok Gap) (Err BadDigit)
+turn None (Some d) g = Ok (High d)
+turn (Some h) None g = cond g (Err HalfByte) (Err BadDigit)
+turn (Some h) (Some d) g = Ok (Byte (bit_or (h * 16 % 256) d))
 
 -- what a byte of the text does
-abbrev pub next : Option ℕ → ℕ → Turn
+abbrev pub next : Option ℕ → ℕ → Result Turn Cause
 next high b = turn high (digit b) (gap b)

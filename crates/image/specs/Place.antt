@@ -1,5 +1,5 @@
 -- Lines and columns of a text, both counted from 1.
-use Rattle.std.specs.Prelude.{ℕ, ◌+◌, cond, List, fold, ◌==◌}
+use Rattle.std.specs.Prelude.{ℕ, ◌+◌, cond, List, fold, take, Some, None, Ok, Err, Option, Result, ◌==◌}
 use Rattle.image.specs.declared.trouble.Cause.{Cause}
 use Rattle.image.specs.declared.trouble.Trouble.{Trouble}
 
@@ -14,3 +14,8 @@ place_of bs = fold past (1, 1) bs
 -- a cause at a line and a column
 abbrev pub trouble_at : Cause → ℕ × ℕ → Trouble
 trouble_at c (l, k) = record { cause = c; line = l; column = k }
+
+-- the trouble of a cause at an index of the text
+abbrev pub trouble_of : {M : Type 0} → List ℕ → Result M (Cause × ℕ) → Option Trouble
+trouble_of text (Ok m) = None
+trouble_of text (Err (c, i)) = Some (trouble_at c (place_of (take i text)))

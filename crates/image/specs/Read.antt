@@ -1,9 +1,14 @@
 -- What the reader answers.
-use Rattle.std.specs.Prelude.{◌≡◌, ℕ, List, Ok, Err, Result}
-use Rattle.image.specs.Hex.{Reading, spells, fails}
+use Rattle.std.specs.Prelude.{◌≡◌, ℕ, List, Some, Ok, Err, Result, ⊤}
+use Rattle.image.specs.Place.{trouble_of}
 use Rattle.image.specs.declared.trouble.Cause.{Cause}
+use Rattle.image.specs.declared.trouble.ImageError.{ImageError}
+use Rattle.image.specs.declared.trouble.ImageError.TheVariants.{NoImage, Input, OutOfMemory}
 
--- the bytes that are spelled, by the list that a vector holds, or the cause and its index
-abbrev pub Reads : {V : Type 0} → (V → List ℕ) → Reading → Result V (Cause × ℕ) → Type 0
-Reads items r (Ok v) = r ≡ spells (items v)
-Reads items r (Err (c, i)) = r ≡ fails c i
+-- an answer is what the text means, as seen in a value, or the trouble at its line and column; without memory it says
+-- nothing of the text
+abbrev pub Answers : {V M : Type 0} → (V → M) → List ℕ → Result M (Cause × ℕ) → Result V ImageError → Type 0
+Answers view text m (Ok v) = m ≡ Ok (view v)
+Answers view text m (Err (NoImage t)) = trouble_of text m ≡ Some t
+Answers view text m (Err (Input e)) = ⊥
+Answers view text m (Err OutOfMemory) = ⊤

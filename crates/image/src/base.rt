@@ -1,70 +1,47 @@
 // The base of an image: eight digits on a first line that begins `base `, or else 00001000.
-ghost use Rattle.std.specs.Prelude.{◌≡◌, length};
-ghost use Rattle.image.specs.Base.{says_base, byte_of, eight, ends_line, base_of};
+ghost use Rattle.std.specs.Prelude.{◌≡◌};
+ghost use Rattle.image.specs.Base.{number, ends_line, base_of};
 
 use crate::digit::digit;
 use crate::trouble::Cause;
 
-fn says_base(text: &[u8]) -> bool
-    ensures { result ≡ says_base text.now }
-{
-    text.len() >= 5
-        && text[0] == b'b'
-        && text[1] == b'a'
-        && text[2] == b's'
-        && text[3] == b'e'
-        && text[4] == b' '
-}
+const PREFIX: &[u8] = b"base ";
 
-// The byte of two digits.
-fn byte_of(high: u8, low: u8) -> Option<u8>
-    ensures { result ≡ byte_of high low }
+const DIGITS: usize = 8;
+
+// The number of eight hexadecimal digits; the lemma says that it fits.
+#[tactic(auto, using(crate::proofs::Digits::has_room))]
+fn number(digits: &[u8; DIGITS]) -> Option<u32>
+    ensures { result ≡ number 0 digits.now }
 {
-    match (digit(high), digit(low)) {
-        (Some(h), Some(l)) => Some(h * 16 + l),
-        _ => None,
+    let mut number = 0;
+    for &byte in digits {
+        number = number * 16 + u32::from(digit(byte)?);
     }
+    Some(number)
 }
 
-// The number of the eight digits from index 5 on.
-fn eight(text: &[u8]) -> Option<u32>
-    ensures { result ≡ eight text.now }
+fn ends_line(rest: &[u8]) -> bool
+    ensures { result ≡ ends_line rest.now }
 {
-    if text.len() < 13 {
-        return None;
-    }
-    match (
-        byte_of(text[5], text[6]),
-        byte_of(text[7], text[8]),
-        byte_of(text[9], text[10]),
-        byte_of(text[11], text[12]),
-    ) {
-        (Some(a), Some(b), Some(c), Some(d)) => Some(u32::from_be_bytes([a, b, c, d])),
-        _ => None,
-    }
+    matches!(rest, [] | [b'\n', ..])
 }
 
-fn ends_line(text: &[u8]) -> bool
-    ensures { result ≡ ends_line text.now }
-{
-    text.len() <= 13 || text[13] == b'\n'
-}
-
-// The base, and the index at which the bytes begin.
+// The base, and the index at which the bytes begin. Callers need none of the cases that are unfolded here.
+#[tactic(auto, unfolding(crate::specs::Base::base_of))]
 pub(crate) fn read_base(text: &[u8]) -> Result<(u32, usize), Cause>
     ensures { result ≡ base_of text.now }
 {
-    if !says_base(text) {
+    let Some(line) = text.strip_prefix(PREFIX) else {
         return Ok((0x1000, 0));
+    };
+    let (digits, rest) = line.split_first_chunk::<DIGITS>().ok_or(Cause::NoBase)?;
+    let base = number(digits).ok_or(Cause::NoBase)?;
+    if !ends_line(rest) {
+        return Err(Cause::NoBase);
     }
-    match eight(text) {
-        Some(base) if ends_line(text) => {
-            if base % 2 == 0 {
-                Ok((base, 13))
-            } else {
-                Err(Cause::OddBase)
-            }
-        }
-        _ => Err(Cause::NoBase),
+    if base % 2 != 0 {
+        return Err(Cause::OddBase);
     }
+    Ok((base, PREFIX.len() + DIGITS))
 }

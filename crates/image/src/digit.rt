@@ -4,12 +4,11 @@ ghost use Rattle.image.specs.Digit.{digit, gap, next};
 
 use crate::trouble::Cause;
 
-#[derive(Clone, Copy)]
-pub enum Turn {
+#[derive(Clone, Copy, Debug, PartialEq, Eq)]
+pub(crate) enum Turn {
     Gap,
     High(u8),
     Byte(u8),
-    Wrong(Cause),
 }
 
 // The value of a hexadecimal digit.
@@ -28,17 +27,17 @@ pub(crate) fn digit(byte: u8) -> Option<u8>
 fn is_gap(byte: u8) -> bool
     ensures { result ≡ gap byte }
 {
-    byte == b' ' || byte == b'\n'
+    matches!(byte, b' ' | b'\n')
 }
 
-pub(crate) fn next(high: Option<u8>, byte: u8) -> Turn
+pub(crate) fn next(high: Option<u8>, byte: u8) -> Result<Turn, Cause>
     ensures { result ≡ next high byte }
 {
     match (high, digit(byte)) {
-        (None, Some(d)) => Turn::High(d),
-        (Some(h), Some(d)) => Turn::Byte((h << 4) | d),
-        (None, None) if is_gap(byte) => Turn::Gap,
-        (Some(_), None) if is_gap(byte) => Turn::Wrong(Cause::HalfByte),
-        _ => Turn::Wrong(Cause::BadDigit),
+        (None, Some(d)) => Ok(Turn::High(d)),
+        (Some(h), Some(d)) => Ok(Turn::Byte((h << 4) | d)),
+        (None, None) if is_gap(byte) => Ok(Turn::Gap),
+        (Some(_), None) if is_gap(byte) => Err(Cause::HalfByte),
+        _ => Err(Cause::BadDigit),
     }
 }

@@ -1,10 +1,10 @@
 // Images as hexadecimal text.
 #![tactic(auto)]
 
-pub mod base;
-pub mod digit;
+mod base;
+mod digit;
 pub mod image;
-pub mod place;
-pub mod read;
+mod place;
+mod read;
 pub mod reading;
 pub mod trouble;

@@ -5,24 +5,30 @@ ghost use Rattle.image.specs.Place.{place_of, trouble_at};
 use crate::trouble::{Cause, Trouble};
 
 // The line and the column of the byte at an index, or of the text's end.
-pub(crate) fn place(text: &[u8], index: usize, cause: Cause) -> Trouble
-    ensures { result ≡ trouble_at cause (place_of (take index text.now)) }
+fn place(text: &[u8], index: usize) -> (usize, usize)
+    ensures { result ≡ place_of (take index text.now) }
 {
-    let mut line = 1;
-    let mut column = 1;
-    let mut i = 0;
-    while i < index && i < text.len() {
-        if text[i] == b'\n' {
+    let (mut line, mut column) = (1, 1);
+    for &byte in text.get(..index).unwrap_or(text) {
+        if byte == b'\n' {
             line += 1;
             column = 1;
         } else {
             column += 1;
         }
-        i += 1;
     }
-    Trouble {
-        cause,
-        line,
-        column,
+    (line, column)
+}
+
+impl Cause {
+    pub(crate) fn at(self, text: &[u8], index: usize) -> Trouble
+        ensures { result ≡ trouble_at self (place_of (take index text.now)) }
+    {
+        let (line, column) = place(text, index);
+        Trouble {
+            cause: self,
+            line,
+            column,
+        }
     }
 }

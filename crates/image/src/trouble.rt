@@ -1,37 +1,58 @@
 // Why a text is no image, and where; lines and columns count from 1.
-use std::fmt;
+ghost use Rattle.std.specs.Prelude.{◌≡◌};
+ghost use Rattle.image.specs.declared.trouble.ImageError.TheVariants.{NoImage, OutOfMemory};
 
-#[derive(Clone, Copy)]
+use std::alloc::AllocFailed;
+use std::io;
+use thiserror::Error;
+
+#[derive(Clone, Copy, Debug, PartialEq, Eq, Error)]
 pub enum Cause {
-    // a byte that is no hexadecimal digit, space or newline
+    #[error("not a hexadecimal digit")]
     BadDigit,
-    // a digit without the second one of its byte
+    #[error("a byte has two digits")]
     HalfByte,
     // `base` without eight digits up to the line's end
+    #[error("the base has eight hexadecimal digits")]
     NoBase,
+    #[error("the base is odd")]
     OddBase,
     // the base plus the number of bytes reaches 2^32
+    #[error("the image goes past the last address")]
     PastTheEnd,
 }
 
-#[derive(Clone, Copy)]
+#[derive(Clone, Copy, Debug, PartialEq, Eq, Error)]
+#[error("line {line} column {column}: {cause}")]
 pub struct Trouble {
     pub cause: Cause,
     pub line: usize,
     pub column: usize,
 }
 
-impl fmt::Display for Trouble {
-    fn fmt<W: fmt::Write>(&self, f: &mut fmt::Formatter<W>) -> fmt::Result {
-        let what = match self.cause {
-            Cause::BadDigit => "not a hexadecimal digit",
-            Cause::HalfByte => "a byte has two digits",
-            Cause::NoBase => "the base has eight hexadecimal digits",
-            Cause::OddBase => "the base is odd",
-            Cause::PastTheEnd => "the image goes past the last address",
-        };
-        let line = self.line;
-        let column = self.column;
-        write!(f, "line {line} column {column}: {what}")
+// Why a text was not read as an image: it spells none, its reader failed, or memory ran out.
+#[derive(Debug, Drop, Error)]
+pub enum ImageError {
+    #[error(transparent)]
+    NoImage(Trouble),
+    #[error(transparent)]
+    Input(io::Error),
+    #[error("memory allocation failed")]
+    OutOfMemory,
+}
+
+impl From<Trouble> for ImageError {
+    ghost from_gives = { λ trouble error. error ≡ NoImage trouble };
+
+    fn from(trouble: Trouble) -> ImageError {
+        ImageError::NoImage(trouble)
+    }
+}
+
+impl<T: Drop> From<AllocFailed<T>> for ImageError {
+    ghost from_gives = { λ _ error. error ≡ OutOfMemory };
+
+    fn from(_failed: AllocFailed<T>) -> ImageError {
+        ImageError::OutOfMemory
     }
 }

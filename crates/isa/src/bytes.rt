@@ -19,32 +19,31 @@ impl Form {
     pub fn byte(self, offset: usize) -> u8
         ensures { result ≡ slice_index (image self) offset }
     {
-        match (self, offset) {
-            (Form::Short(h), 0) => (h % 256) as u8,
-            (Form::Short(h), 1) => (h / 256) as u8,
-            (Form::Long(w), 0) => (w / 65536 % 256) as u8,
-            (Form::Long(w), 1) => (w / 16777216) as u8,
-            (Form::Long(w), 2) => (w % 256) as u8,
-            (Form::Long(w), 3) => (w / 256 % 256) as u8,
-            _ => 0,
-        }
+        let bytes = match self {
+            Form::Short(halfword) => {
+                let [a, b] = halfword.to_le_bytes();
+                [a, b, 0, 0]
+            }
+            Form::Long(word) => {
+                // the high halfword lies first
+                let [c, d, a, b] = word.to_le_bytes();
+                [a, b, c, d]
+            }
+        };
+        bytes.get(offset).copied().unwrap_or(0)
     }
 
     // The form at the front of a code, whatever it spells; none where the code ends within it.
     pub fn at_front(code: &[u8]) -> Option<Form>
         ensures { result ≡ front_form code.now }
     {
-        if code.len() < 2 {
-            return None;
+        match code {
+            // the top two bits of the first halfword tell whether a second follows
+            [a, b @ 0xc0..=0xff, c, d, ..] => {
+                Some(Form::Long(u32::from_le_bytes([*c, *d, *a, *b])))
+            }
+            [a, b @ 0..=0xbf, ..] => Some(Form::Short(u16::from_le_bytes([*a, *b]))),
+            _ => None,
         }
-        let first = code[0] as u16 + 256 * code[1] as u16;
-        if first < 0xc000 {
-            return Some(Form::Short(first));
-        }
-        if code.len() < 4 {
-            return None;
-        }
-        let second = code[2] as u16 + 256 * code[3] as u16;
-        Some(Form::Long(first as u32 * 65536 + second as u32))
     }
 }

@@ -1,3 +1,4 @@
+// Operations, branches, and the forms that spell them.
 #![tactic(auto)]
 
 pub mod bytes;

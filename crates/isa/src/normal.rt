@@ -9,14 +9,14 @@ impl RegisterOp {
     pub fn commutes(self) -> bool
         ensures { result ≡ commutes self }
     {
-        match self {
+        matches!(
+            self,
             RegisterOp::Addu
-            | RegisterOp::Addc
-            | RegisterOp::And
-            | RegisterOp::Or
-            | RegisterOp::Mult => true,
-            _ => false,
-        }
+                | RegisterOp::Addc
+                | RegisterOp::And
+                | RegisterOp::Or
+                | RegisterOp::Mult
+        )
     }
 }
 

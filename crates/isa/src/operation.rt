@@ -2,7 +2,7 @@
 // n is the constant that the instruction holds.
 
 // z ← x op y.
-#[derive(Clone, Copy)]
+#[derive(Clone, Copy, Debug, PartialEq, Eq)]
 pub enum RegisterOp {
     Addu,
     Addc,
@@ -20,7 +20,7 @@ pub enum RegisterOp {
 }
 
 // z ← x op n.
-#[derive(Clone, Copy)]
+#[derive(Clone, Copy, Debug, PartialEq, Eq)]
 pub enum ImmediateOp {
     Addi,
     Andi,
@@ -33,7 +33,7 @@ pub enum ImmediateOp {
 }
 
 // carry ← x tested against n.
-#[derive(Clone, Copy)]
+#[derive(Clone, Copy, Debug, PartialEq, Eq)]
 pub enum TestOp {
     Btsti,
     Cmplti,
@@ -41,7 +41,7 @@ pub enum TestOp {
 }
 
 // carry ← x compared with y.
-#[derive(Clone, Copy)]
+#[derive(Clone, Copy, Debug, PartialEq, Eq)]
 pub enum CompareOp {
     Cmphs,
     Cmplt,
@@ -49,7 +49,7 @@ pub enum CompareOp {
 }
 
 // z loaded from, or stored at, x + n.
-#[derive(Clone, Copy)]
+#[derive(Clone, Copy, Debug, PartialEq, Eq)]
 pub enum AccessOp {
     LdB,
     LdH,
@@ -62,21 +62,21 @@ pub enum AccessOp {
 }
 
 // z ← n, or n in the high halfword.
-#[derive(Clone, Copy)]
+#[derive(Clone, Copy, Debug, PartialEq, Eq)]
 pub enum ConstantOp {
     Movi,
     Movih,
 }
 
 // A jump to x; jsr links through r15.
-#[derive(Clone, Copy)]
+#[derive(Clone, Copy, Debug, PartialEq, Eq)]
 pub enum JumpOp {
     Jmp,
     Jsr,
 }
 
 // A branch relative to its own address: always, if carry, if no carry, or always with a link through r15.
-#[derive(Clone, Copy)]
+#[derive(Clone, Copy, Debug, PartialEq, Eq)]
 pub enum Branch {
     Br,
     Bt,
@@ -84,7 +84,7 @@ pub enum Branch {
     Bsr,
 }
 
-#[derive(Clone, Copy)]
+#[derive(Clone, Copy, Debug, PartialEq, Eq)]
 pub enum Operation {
     Register {
         op: RegisterOp,
@@ -131,7 +131,7 @@ pub enum Operation {
 }
 
 // What a halfword or a word in the image spells: an operation, or a branch with its displacement in halfwords.
-#[derive(Clone, Copy)]
+#[derive(Clone, Copy, Debug, PartialEq, Eq)]
 pub enum Instruction {
     Plain(Operation),
     Relative { branch: Branch, halfwords: i32 },

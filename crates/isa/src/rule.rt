@@ -1,5 +1,5 @@
 // What stands in a form's field for the constant: itself, one less, half of it or a quarter.
-#[derive(Clone, Copy)]
+#[derive(Clone, Copy, Debug, PartialEq, Eq)]
 pub enum Rule {
     Plain,
     LessOne,

@@ -8,5 +8,5 @@ split_at border first second address = cond (nat_lt address border) (first addre
 
 -- a split's meaning, from what its two memories mean
 abbrev pub split_meaning : {F S : Type 0} → (F → Meaning) → (S → Meaning) → Split F S → Meaning
-split_meaning means-first means-second split =
-    split_at split.border (means-first split.first) (means-second split.second)
+split_meaning means_first means_second split =
+    split_at split.border (means_first split.first) (means_second split.second)

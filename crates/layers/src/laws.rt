@@ -2,15 +2,11 @@
 ghost use Rattle.layers.specs.Laws.{LockLaw, SplitLaw};
 
 // A lock takes from the memory below only the writes inside its range to bytes that are there.
-pub fn lock_refuses_only_writes() -> u8
+pub fn lock_refuses_only_writes()
     ensures { LockLaw }
-{
-    0
-}
+{}
 
 // A split is its first memory below the border and its second from there on.
-pub fn split_is_its_two_memories() -> u8
+pub fn split_is_its_two_memories()
     ensures { SplitLaw }
-{
-    0
-}
+{}

@@ -1,6 +1,6 @@
 // A lock: a range of any memory made read-only.
 ghost use Rattle.std.specs.Prelude.{◌≡◌};
-ghost use Rattle.layers.specs.Lock.{lock_meaning, locked_range, locked};
+ghost use Rattle.layers.specs.Lock.{lock_meaning, locked_range};
 ghost use Rattle.memory.specs.Span.{in_range};
 
 use memory::cell::Cell;
@@ -16,17 +16,6 @@ pub struct Lock<M> {
     below: M,
     start: u32,
     length: usize,
-}
-
-// A cell of the memory below, inside the range.
-fn lock_cell(cell: Cell) -> Cell
-    ensures { result ≡ locked cell }
-{
-    let part = LOCK_PART;
-    match cell {
-        Cell::Absent { .. } => cell,
-        Cell::ReadOnly { byte, .. } | Cell::Writable { byte } => Cell::ReadOnly { byte, part },
-    }
 }
 
 impl<M: Memory> Lock<M> {
@@ -54,11 +43,12 @@ impl<M: Memory> Memory for Lock<M> {
     ghost means = { lock_meaning M.Memory.means };
 
     fn ask(&self, address: u32) -> Cell {
-        let cell = self.below.ask(address);
-        if self.covers(address) {
-            lock_cell(cell)
-        } else {
-            cell
+        let part = LOCK_PART;
+        match self.below.ask(address) {
+            Cell::ReadOnly { byte, .. } | Cell::Writable { byte } if self.covers(address) => {
+                Cell::ReadOnly { byte, part }
+            }
+            cell => cell,
         }
     }
 

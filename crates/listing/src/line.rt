@@ -1,55 +1,42 @@
-// An instruction at its address: address, form and text.
-use decoder::bytes::decode;
-use decoder::decoded::Decoded;
+// A line of a listing: address, form and text of an instruction.
+use alu::shifts::target;
+use decoder::form::decode_form;
 use isa::form::Form;
 use isa::operation::Instruction;
 use std::fmt;
 use text::mnemonic::Mnemonic;
 use text::operation::Text;
 
-// A form in hexadecimal.
-#[derive(Clone, Copy)]
-pub struct Hex(pub Form);
-
-impl fmt::Display for Hex {
-    fn fmt<W: fmt::Write>(&self, f: &mut fmt::Formatter<W>) -> fmt::Result {
-        match self.0 {
-            Form::Short(h) => write!(f, "{h:04X}"),
-            Form::Long(w) => write!(f, "{w:08X}"),
-        }
-    }
-}
-
-// What the front of a code spells at an address; a branch shows where it goes.
-#[derive(Clone, Copy)]
-pub struct Spelling<'a> {
+// The instruction at the front of a code that lies at an address. A branch shows where it goes; a code that ends
+// within the instruction shows how many bytes there are.
+#[derive(Clone, Copy, Debug, PartialEq, Eq)]
+pub struct Line<'a> {
     pub address: u32,
     pub code: &'a [u8],
 }
 
-impl fmt::Display for Spelling<'_> {
+impl fmt::Display for Line<'_> {
     fn fmt<W: fmt::Write>(&self, f: &mut fmt::Formatter<W>) -> fmt::Result {
-        match decode(self.code) {
-            Ok(
-                Decoded {
-                    instruction: Instruction::Plain(operation),
-                    ..
-                },
-            ) => {
+        let Line { address, code } = *self;
+        let Some(form) = Form::at_front(code) else {
+            let left = code.len();
+            return write!(f, "{address:08X} incomplete, {left} bytes");
+        };
+        match form {
+            Form::Short(halfword) => write!(f, "{address:08X} {halfword:04X} ")?,
+            Form::Long(word) => write!(f, "{address:08X} {word:08X} ")?,
+        }
+        match decode_form(form) {
+            Some(Instruction::Plain(operation)) => {
                 let text = Text(operation);
                 write!(f, "{text}")
             }
-            Ok(
-                Decoded {
-                    instruction: Instruction::Relative { branch, halfwords },
-                    ..
-                },
-            ) => {
+            Some(Instruction::Relative { branch, halfwords }) => {
                 let name = Mnemonic::Relative(branch).name();
-                let target = self.address.wrapping_add_signed(halfwords.wrapping_mul(2));
+                let target = target(address, halfwords);
                 write!(f, "{name} {target:08X}")
             }
-            Err(_) => write!(f, "unknown"),
+            None => write!(f, "unknown"),
         }
     }
 }

@@ -1,5 +1,5 @@
 -- What lists of calls leave of a memory.
-use Rattle.std.specs.Prelude.{ℕ, List, [], ◌∷◌}
+use Rattle.std.specs.Prelude.{ℕ, List, fold}
 use Rattle.memory.specs.Memory.{Meaning, written}
 use Rattle.memory.specs.declared.calls.Call.{Call}
 use Rattle.memory.specs.declared.calls.Call.TheVariants.{Ask, Read, Write}
@@ -14,8 +14,7 @@ after_call m (Write address byte) = written m address byte
 
 -- a meaning after a list of calls, first to last
 abbrev pub after_calls : Meaning → List Call → Meaning
-after_calls m [] = m
-after_calls m (call ∷ calls) = after_calls (after_call m call) calls
+after_calls = fold after_call
 
 -- what may be done at an address, and the part that refuses the rest
 pub data Permission : Type 0 where

@@ -5,7 +5,7 @@ ghost use Rattle.memory.specs.Cell.{on_read, on_write};
 use refusal::fault::Fault;
 
 // A byte or none, and the number of the part that refuses what is not allowed.
-#[derive(Clone, Copy)]
+#[derive(Clone, Copy, Debug, PartialEq, Eq)]
 pub enum Cell {
     // no byte; `part` refuses reads and writes
     Absent { part: u8 },

@@ -6,9 +6,6 @@ ghost use Rattle.memory.specs.Span.{in_range};
 pub fn offset(start: u32, count: usize, address: u32) -> Option<usize>
     ensures { result ≡ (if in_range start count address then Some (address - start) else None) }
 {
-    if address < start {
-        return None;
-    }
-    let offset = (address - start) as usize;
-    if offset < count { Some(offset) } else { None }
+    let offset = address.checked_sub(start)? as usize;
+    (offset < count).then_some(offset)
 }

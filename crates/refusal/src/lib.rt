@@ -1,3 +1,4 @@
+// Why calls refuse.
 #![tactic(auto)]
 
 pub mod fault;

@@ -6,20 +6,6 @@ use crate::fault::Fault;
 use crate::place::Place;
 use crate::refusal::Refusal;
 
-// A place that has none of its parts.
-fn nowhere() -> Place
-    ensures { result ≡ record { line = 0; column = 0; item = 0; pc = 0; address = 0; part = 0 } }
-{
-    Place {
-        line: 0,
-        column: 0,
-        item: 0,
-        pc: 0,
-        address: 0,
-        part: 0,
-    }
-}
-
 impl Refusal {
     pub fn number(self) -> u8
         ensures { result ≡ number self }
@@ -63,7 +49,7 @@ impl Refusal {
             Refusal::LineTooLong => Place {
                 line,
                 column: 81,
-                ..nowhere()
+                ..Place::default()
             },
             Refusal::BadByte { column }
             | Refusal::UnknownMnemonic { column }
@@ -72,28 +58,37 @@ impl Refusal {
             | Refusal::NoForm { column } => Place {
                 line,
                 column,
-                ..nowhere()
+                ..Place::default()
             },
             Refusal::TableFull
             | Refusal::LabelTaken
             | Refusal::NotOwed
-            | Refusal::NothingToTakeBack => Place { line, ..nowhere() },
-            Refusal::InvalidArgument | Refusal::TooFar | Refusal::NoRoom => nowhere(),
-            Refusal::LabelNotPlaced { item } => Place { item, ..nowhere() },
+            | Refusal::NothingToTakeBack => Place {
+                line,
+                ..Place::default()
+            },
+            Refusal::InvalidArgument | Refusal::TooFar | Refusal::NoRoom => Place::default(),
+            Refusal::LabelNotPlaced { item } => Place {
+                item,
+                ..Place::default()
+            },
             Refusal::NoInstruction { pc }
             | Refusal::UnknownInstruction { pc }
-            | Refusal::Breakpoint { pc } => Place { pc, ..nowhere() },
+            | Refusal::Breakpoint { pc } => Place {
+                pc,
+                ..Place::default()
+            },
             Refusal::Misaligned { pc, address } => Place {
                 pc,
                 address,
-                ..nowhere()
+                ..Place::default()
             },
             Refusal::Absent { pc, address, part } | Refusal::ReadOnly { pc, address, part } => {
                 Place {
                     pc,
                     address,
                     part,
-                    ..nowhere()
+                    ..Place::default()
                 }
             }
         }
@@ -104,10 +99,7 @@ impl Fault {
     pub fn number(self) -> u8
         ensures { result ≡ fault_number self }
     {
-        match self {
-            Fault::Absent { .. } => 19,
-            Fault::ReadOnly { .. } => 20,
-        }
+        self.at(0, 0).number()
     }
 
     // The refusal of a step at `pc` whose access met the fault at `address`.

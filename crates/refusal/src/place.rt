@@ -1,5 +1,5 @@
 // Where a call refused; what a cause lacks is 0.
-#[derive(Clone, Copy)]
+#[derive(Clone, Copy, Debug, Default, PartialEq, Eq)]
 pub struct Place {
     pub line: usize,
     pub column: usize,

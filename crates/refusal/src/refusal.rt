@@ -1,5 +1,5 @@
 // Why a call refused, with the place that the cause has. Columns and items count from 1.
-#[derive(Clone, Copy)]
+#[derive(Clone, Copy, Debug, PartialEq, Eq)]
 pub enum Refusal {
     // the line has more than 80 bytes
     LineTooLong,

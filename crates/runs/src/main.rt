@@ -19,9 +19,11 @@ fn seated() -> Result<Core, Refusal> {
     Core::seat([0; 32], false, BASE, &ROUTINE, BASE)
 }
 
-fn run_with(budget: u32, code: &[u8]) -> Result<Ran, Refusal> {
-    let mut core = seated()?;
-    Ok(core.run(code, &mut Mailbox::new(0), budget))
+fn run_with(budget: u32, code: &[u8]) -> Ran {
+    match seated() {
+        Ok(mut core) => core.run(code, &mut Mailbox::new(0), budget),
+        Err(refusal) => Ran::stopped(0, refusal),
+    }
 }
 
 // What run to answers, and whether the code is then as it was.
@@ -42,13 +44,12 @@ fn under_patch(address: u32, index: usize) -> Result<(u8, u8), Refusal> {
     Ok((under, code.get(index).copied().unwrap_or(0)))
 }
 
-// What seat answers, for a base, a start and a length of code.
-fn seat_of(base: u32, start: u32, code: &[u8]) -> Result<Ran, Refusal> {
-    let _ = Core::seat([0; 32], true, base, code, start)?;
-    Ok(Ran {
-        steps: 0,
-        refusal: None,
-    })
+// What seat answers, for a base, a start and a length of code: as a run of no steps.
+fn seat_of(base: u32, start: u32, code: &[u8]) -> Ran {
+    Core::seat([0; 32], true, base, code, start).map_or_else(
+        |refusal| Ran::stopped(0, refusal),
+        |_| Ran::completed(0),
+    )
 }
 
 fn budgets(rt: &HostRuntime) -> anyhow::Result<()> {
@@ -63,7 +64,7 @@ fn budgets(rt: &HostRuntime) -> anyhow::Result<()> {
 
 fn tell_run_to(rt: &HostRuntime, address: u32, budget: u32) -> anyhow::Result<()> {
     if let Ok((ran, same)) = run_to(address, budget) {
-        let told = Told(Ok(ran));
+        let told = Told(ran);
         println!(rt;
             "run to {address:08X}, budget {budget}: {told}; the code is as it was: {same}"
         )?;

@@ -1,17 +1,13 @@
-// A run's answer, or the refusal of a seat.
+// What a run answers.
 use cpu::ran::Ran;
-use refusal::refusal::Refusal;
 use std::fmt;
 
 #[derive(Clone, Copy)]
-pub(crate) struct Told(pub(crate) Result<Ran, Refusal>);
+pub(crate) struct Told(pub(crate) Ran);
 
 impl fmt::Display for Told {
     fn fmt<W: fmt::Write>(&self, f: &mut fmt::Formatter<W>) -> fmt::Result {
-        let (steps, refusal) = match self.0 {
-            Ok(ran) => (ran.steps, ran.refusal),
-            Err(refusal) => (0, Some(refusal)),
-        };
+        let Ran { steps, refusal } = self.0;
         match refusal {
             Some(refusal) => {
                 let number = refusal.number();

@@ -1,12 +1,10 @@
 // How the steps ended, in words.
+use cpu::ran::Ran;
 use refusal::refusal::Refusal;
 use std::fmt;
 
 #[derive(Clone, Copy)]
-pub(crate) struct End {
-    pub(crate) steps: u32,
-    pub(crate) refusal: Option<Refusal>,
-}
+pub(crate) struct End(pub(crate) Ran);
 
 fn words(refusal: Refusal) -> &'static str {
     match refusal {
@@ -24,28 +22,21 @@ fn words(refusal: Refusal) -> &'static str {
 
 impl fmt::Display for End {
     fn fmt<W: fmt::Write>(&self, f: &mut fmt::Formatter<W>) -> fmt::Result {
-        let steps = self.steps;
-        match self.refusal {
-            None => write!(f, "{steps} steps"),
-            Some(refusal) => {
-                let number = refusal.number();
-                let what = words(refusal);
-                let place = refusal.place();
-                let pc = place.pc;
-                write!(
-                    f,
-                    "{steps} steps, then refused by {number}: {what}, PC {pc:08X}"
-                )?;
-                if number >= 18 {
-                    let address = place.address;
-                    write!(f, ", address {address:08X}")?;
-                }
-                if number >= 19 {
-                    let part = place.part;
-                    write!(f, ", part {part}")?;
-                }
-                Ok(())
+        let Ran { steps, refusal } = self.0;
+        write!(f, "{steps} steps")?;
+        let Some(refusal) = refusal else {
+            return Ok(());
+        };
+        let number = refusal.number();
+        let what = words(refusal);
+        let pc = refusal.place().pc;
+        write!(f, ", then refused by {number}: {what}, PC {pc:08X}")?;
+        match refusal {
+            Refusal::Misaligned { address, .. } => write!(f, ", address {address:08X}"),
+            Refusal::Absent { address, part, .. } | Refusal::ReadOnly { address, part, .. } => {
+                write!(f, ", address {address:08X}, part {part}")
             }
+            _ => Ok(()),
         }
     }
 }

@@ -6,20 +6,20 @@
 
 mod changes;
 mod end;
-mod steps;
+mod machine;
 
 use crate::end::End;
-use crate::steps::{Board, step_through};
+use crate::machine::{Board, Machine};
 use anyhow::anyhow;
 use banks::bank::Bank;
 use banks::mailbox::Mailbox;
 use cpu::processor::Core;
+use cpu::ran::Ran;
 use image::image::Image;
-use image::reading::read_image;
+use image::trouble::ImageError;
 use layers::split::Split;
 use std::alloc::{AllocError, Global};
-use std::env;
-use std::io::Read;
+use std::{env, fmt};
 
 const BANK: u32 = 0x2000_0000;
 
@@ -36,12 +36,16 @@ fn board(heap: Global) -> Result<Board, AllocError> {
 
 // The most steps to make, by the first argument.
 fn budget(rt: &HostRuntime) -> anyhow::Result<u32> {
-    let mut arguments = env::args(rt)?;
-    let _ = arguments.next();
-    match arguments.next() {
-        Some(word) => Ok(word.as_str().parse::<u32>()?),
+    match env::args(rt)?.nth(1) {
+        Some(word) => Ok(word.as_str().parse()?),
         None => Ok(BUDGET),
     }
+}
+
+// Tells why nothing was stepped.
+fn refuse<T: fmt::Display>(rt: &HostRuntime, why: &T) -> anyhow::Result<()> {
+    println!(rt; "{why}")?;
+    Err(anyhow!("refused"))
 }
 
 fn step_image(rt: &HostRuntime, image: &Image, budget: u32) -> anyhow::Result<()> {
@@ -49,32 +53,22 @@ fn step_image(rt: &HostRuntime, image: &Image, budget: u32) -> anyhow::Result<()
     words[14] = BANK + BANK_SIZE as u32;
     let code = image.bytes.as_slice();
     match Core::seat(words, false, image.base, code, image.base) {
-        Ok(mut core) => {
-            let mut memory = board(rt.alloc())?;
-            let end = step_through(rt, &mut core, code, &mut memory, budget)?;
+        Ok(core) => {
+            let memory = board(rt.alloc())?;
+            let mut machine = Machine { core, code, memory };
+            let end = End(machine.run(rt, budget)?);
             println!(rt; "{end}")?;
             Ok(())
         }
-        Err(refusal) => {
-            let end = End {
-                steps: 0,
-                refusal: Some(refusal),
-            };
-            println!(rt; "{end}")?;
-            Err(anyhow!("refused"))
-        }
+        Err(refusal) => refuse(rt, &End(Ran::stopped(0, refusal))),
     }
 }
 
 fn main(rt: HostRuntime) -> anyhow::Result<()> {
     let budget = budget(&rt)?;
-    let mut text = Vec::new(rt.alloc());
-    rt.stdin().read_to_end(&mut text)?;
-    match read_image(rt.alloc(), text.as_slice())? {
+    match Image::read(rt.alloc(), &mut rt.stdin()) {
         Ok(image) => step_image(&rt, &image, budget),
-        Err(trouble) => {
-            println!(rt; "{trouble}")?;
-            Err(anyhow!("refused"))
-        }
+        Err(ImageError::NoImage(trouble)) => refuse(&rt, &trouble),
+        Err(error) => Err(error.into()),
     }
 }

@@ -1,6 +1,7 @@
 -- Acts are what the table's forms spell, and the form used is least.
 use Rattle.std.proofs.Common.{◌≡◌, ℕ, ◌≤◌, true, false, ◌||◌, is_some, Some, None, Option, sym, refl, ap, ◌∙◌, subst, arith}
 use Rattle.std.proofs.lemmas.Bool.{and_parts, and_from, and_right, or_left, or_right, false≢true}
+use Rattle.std.proofs.lemmas.Option.{none-some}
 use Rattle.isa.specs.declared.operation.Operation.{Operation}
 use Rattle.isa.specs.declared.operation.Instruction.{Instruction}
 use Rattle.isa.specs.declared.operation.Instruction.TheVariants.{Plain, Relative}
@@ -12,7 +13,7 @@ use Rattle.table.specs.Diagram.{Size, short, long}
 use Rattle.table.specs.Decode.{Spells, decode}
 use Rattle.table.specs.Encode.{form_of, has_form, is_act, branch_form, least}
 use Rattle.table.specs.Laws.{FormsOfActs, ActsHaveForms, Spelled, Least, UsesLeast}
-use Rattle.table.proofs.Rows.{form_spells, none_some}
+use Rattle.table.proofs.Rows.{form_spells}
 use Rattle.table.proofs.Decoding.{decodes_exactly}
 use Rattle.table.proofs.Listed.{listed_formed}
 use Rattle.table.proofs.Branches.{forms_of_branches}
@@ -49,9 +50,6 @@ pub acts_have_forms : ActsHaveForms
 unfolding is_act
 acts_have_forms o t = some_least (form_of short o) (form_of long o) (and_parts _ _ t).1
 
-no_form : (f : Form) → ◌≡◌ {A = Option Form} None (Some f) → ⊥
-no_form f e = let z : ◌≡◌ {A = ℕ} 0 1 = cc in omega arith
-
 -- the short form where there is one, else the long one, is least
 chosen_least : (i : Instruction) (a b : Option ℕ) (f : Form) → ((h : ℕ) → a ≡ Some h → Spells short i h) → ((w : ℕ) → b ≡ Some w → Spells long i w) → ((h : ℕ) → a ≡ None → Spells short i h → ⊥) → least a b ≡ Some f → Least f i
 chosen_least i (Some h) b f p q n e = let g : Short h ≡ f = cc in subst (λ k. Least k i) g (record { spells = p h refl; shortest = at_least_2 })
@@ -64,12 +62,12 @@ chosen_least i None (Some w) f p q n e = let g : Long w ≡ f = cc in subst (λ 
     at_least_4 : (g : Form) → Spelled g i → 4 ≤ size g
     at_least_4 (Short k) s = absurd (n k refl s)
     at_least_4 (Long k) s = omega arith
-chosen_least i None None f p q n e = absurd (no_form f e)
+chosen_least i None None f p q n e = absurd (none-some f e)
 
 pub uses_least : UsesLeast
 uses_least = record {
   act = λ o f t e. chosen_least (Plain o) (form_of short o) (form_of long o) f (λ h k. (forms_of_acts short).form o h t k) (λ w k. (forms_of_acts long).form o w t k) ((forms_of_acts short).none o) e;
-  branch = λ b d f e. chosen_least (Relative b d) (branch_form short b d) (branch_form long b d) f ((forms_of_branches short).form b d) ((forms_of_branches long).form b d) (λ h n i. none_some h (sym n ∙ (forms_of_branches short).only b d h i)) e;
+  branch = λ b d f e. chosen_least (Relative b d) (branch_form short b d) (branch_form long b d) f ((forms_of_branches short).form b d) ((forms_of_branches long).form b d) (λ h n i. none-some h (sym n ∙ (forms_of_branches short).only b d h i)) e;
 }
 
 -- a normal operation is an act exactly when it has a form

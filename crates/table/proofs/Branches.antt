@@ -1,7 +1,8 @@
 -- The forms of branches.
-use Rattle.std.proofs.Common.{◌≡◌, ℕ, suc, ◌+◌, ◌-◌, ◌*◌, ◌%◌, ◌^◌, ◌<◌, ◌≤◌, true, false, cond, ◌&&◌, eqb, ltb, [], ◌∷◌, ℤ, pos, negsuc, ◌-ℤ◌, Some, None, Option, sym, refl, ap, ◌∙◌, subst, inl, inr, ⊎_elim, add-zero, mod-eq_of_lt, arith}
-use Rattle.std.proofs.lemmas.Bool.{and_parts, and_from, eq-eqb, ltb-true, lt-ltb, ltb-false, le-ltb, cond-true, cond-false, cases_Bool, true≢false}
+use Rattle.std.proofs.Common.{◌≡◌, ℕ, suc, ◌+◌, ◌-◌, ◌*◌, ◌%◌, ◌^◌, ◌<◌, ◌≤◌, true, false, cond, ◌&&◌, eqb, ltb, [], ◌∷◌, ℤ, pos, negsuc, ◌-ℤ◌, Some, None, Option, sym, refl, ap, ◌∙◌, subst, inl, inr, add-zero, mod-eq_of_lt, arith}
+use Rattle.std.proofs.lemmas.Bool.{and_parts, and_from, eq-eqb, ltb-true, lt-ltb, ltb-false, le-ltb, cond-true, cond-false, cond_both, true≢false}
 use Rattle.std.proofs.lemmas.Int.{ints}
+use Rattle.std.proofs.lemmas.Option.{none-some, cond_some}
 use Rattle.isa.specs.declared.operation.Branch.{Branch}
 use Rattle.isa.specs.declared.operation.Branch.TheVariants.{Br, Bt, Bf, Bsr}
 use Rattle.isa.specs.declared.operation.Instruction.TheVariants.{Relative}
@@ -10,38 +11,33 @@ use Rattle.table.specs.Table.{Row, row, branch_rows}
 use Rattle.table.specs.Decode.{By, Spells, form, relative, signed}
 use Rattle.table.specs.Encode.{complement, field_of, plus, first_branch, sized_rows, branch_form}
 use Rattle.table.specs.Laws.{FormsOfBranches}
-use Rattle.table.proofs.Rows.{Member, in_branches, none_some, some_same}
+use Rattle.table.proofs.Rows.{Member, in_branches, some_same}
 use Rattle.table.proofs.Listed.{listed_branch}
 
 -- two's complement, to a field and back
 from_complement : (m f n : ℕ) (d : ℤ) → f ≡ 2 * m → complement m f d ≡ Some n → (n < f) × (cond (ltb n m) (pos n) (pos n -ℤ pos f) ≡ d)
 from_complement m f n (pos k) e c =
-    ⊎_elim
-    (λ t. let l : k < m = ltb-true k m t in let s : n ≡ k = some_same k n (sym (cond-true _ (Some k) None t) ∙ c) in (omega arith, subst (λ j. cond (ltb j m) (pos j) (pos j -ℤ pos f) ≡ pos k) (sym s) (cond-true _ (pos k) (pos k -ℤ pos f) t)))
-    (λ t. absurd (none_some n (sym (cond-false _ (Some k) None t) ∙ c)))
-    (cases_Bool (ltb k m))
+    let q = cond_some (ltb k m) k n c in
+    let l : k < m = ltb-true k m q.0 in
+    (omega (arith, q.1), subst (λ j. cond (ltb j m) (pos j) (pos j -ℤ pos f) ≡ pos k) q.1 (cond-true _ (pos k) (pos k -ℤ pos f) q.0))
 from_complement m f n (negsuc k) e c =
-    ⊎_elim
-    (λ t.
-    let l : k < m = ltb-true k m t in
-    let s : n ≡ f - suc k = some_same (f - suc k) n (sym (cond-true _ (Some (f - suc k)) None t) ∙ c) in
+    let q = cond_some (ltb k m) (f - suc k) n c in
+    let l : k < m = ltb-true k m q.0 in
+    let s : f - suc k ≡ n = q.1 in
     let u : ltb n m ≡ false = le-ltb n m (omega arith) in
     let g : pos n -ℤ pos f ≡ negsuc k = omega (arith, ints) in
-    (omega arith, cond-false _ (pos n) (pos n -ℤ pos f) u ∙ g))
-    (λ t. absurd (none_some n (sym (cond-false _ (Some (f - suc k)) None t) ∙ c)))
-    (cases_Bool (ltb k m))
+    (omega arith, cond-false _ (pos n) (pos n -ℤ pos f) u ∙ g)
 
 to_complement : (m f n : ℕ) → f ≡ 2 * m → n < f → complement m f (cond (ltb n m) (pos n) (pos n -ℤ pos f)) ≡ Some n
 to_complement m f n e l =
-    ⊎_elim
-    (λ t. ap (complement m f) (cond-true _ (pos n) (pos n -ℤ pos f) t) ∙ cond-true _ (Some n) None t)
+    cond_both (ltb n m) (pos n) (pos n -ℤ pos f) (λ d. complement m f d ≡ Some n)
+    (λ t. cond-true _ (Some n) None t)
     (λ t.
     let k : m ≤ n = ltb-false n m t in
     let g : pos n -ℤ pos f ≡ negsuc (f - suc n) = omega (arith, ints) in
     let u : ltb (f - suc n) m ≡ true = lt-ltb (f - suc n) m (omega arith) in
     let a : f - suc (f - suc n) ≡ n = omega arith in
-    ap (complement m f) (cond-false _ (pos n) (pos n -ℤ pos f) t ∙ g) ∙ cond-true _ (Some (f - suc (f - suc n))) None u ∙ ap Some a)
-    (cases_Bool (ltb n m))
+    ap (complement m f) g ∙ cond-true _ (Some (f - suc (f - suc n))) None u ∙ ap Some a)
 
 record Plus (w : ℕ) (o : Option ℕ) (h : ℕ) : Type 0 where
   value : ℕ
@@ -49,7 +45,7 @@ record Plus (w : ℕ) (o : Option ℕ) (h : ℕ) : Type 0 where
   sum : h ≡ w + value
 
 plus_some : (w : ℕ) (o : Option ℕ) (h : ℕ) → plus w o ≡ Some h → Plus w o h
-plus_some w None h e = absurd (none_some h e)
+plus_some w None h e = absurd (none-some h e)
 plus_some w (Some n) h e = record { value = n; is = refl; sum = some_same (w + n) h e }
 
 -- a row whose only field is a displacement of k bits
@@ -82,7 +78,7 @@ spells_branch short Bt d h e = in_branches short Bt _ h (offset 6 10 0x0800) (in
 spells_branch long Bt d h e = in_branches long Bt _ h (offset 16 16 0xE8600000) (inr (inl refl)) (spells_offset Bt 16 16 0xE8600000 d h refl e, refl)
 spells_branch short Bf d h e = in_branches short Bf _ h (offset 6 10 0x0C00) (inl refl) (spells_offset Bf 6 10 0x0C00 d h refl e, refl)
 spells_branch long Bf d h e = in_branches long Bf _ h (offset 16 16 0xE8400000) (inr (inl refl)) (spells_offset Bf 16 16 0xE8400000 d h refl e, refl)
-spells_branch short Bsr d h e = absurd (none_some h e)
+spells_branch short Bsr d h e = absurd (none-some h e)
 spells_branch long Bsr d h e = in_branches long Bsr _ h (offset 6 26 0xE0000000) (inl refl) (spells_offset Bsr 6 26 0xE0000000 d h refl e, refl)
 
 -- a branch's entry, at the row that it has

@@ -1,6 +1,7 @@
 -- The decoder finds exactly the forms of the table.
 use Rattle.std.proofs.Common.{◌≡◌, ℕ, ◌+◌, ◌-◌, ◌*◌, ◌/◌, ◌%◌, ◌^◌, ◌<◌, ◌≤◌, Bool, true, false, cond, not, ◌&&◌, ◌||◌, eqb, ltb, leb, List, [], ◌∷◌, Some, None, Option, sym, refl, ap, ◌∙◌, subst, inl, inr, ⊎_elim, mod-eq_of_lt, arith}
-use Rattle.std.proofs.lemmas.Bool.{and_parts, and_from, eqb-true, eqb-false, eq-eqb, ltb-true, lt-ltb, leb-true, le-leb, or_cases, cond-true, cond-false, cases_Bool, not-true, false≢true}
+use Rattle.std.proofs.lemmas.Bool.{and_parts, and_from, eqb-true, eqb-false, eq-eqb, ltb-true, lt-ltb, leb-true, le-leb, or_cases, cond-true, cond-false, cond_both, false_from_ne_true, not-true, false≢true}
+use Rattle.std.proofs.lemmas.Option.{none-some}
 use Rattle.std.proofs.lemmas.Nat.{shr_high, shr_split, mod_below, pow_pos}
 use Rattle.isa.specs.declared.operation.Instruction.{Instruction}
 use Rattle.table.specs.Diagram.{Size, short, long, Operand, reg_z, reg_x, reg_y, number, Part, fixed, unused, field, Pins, free, x_is_z, x_is_r14, both_are_r14, Layout, slice, bits, width, operands, place, taken, agrees, rest, span, registers_fit, fits, z_of, x_of}
@@ -212,18 +213,15 @@ distinct (e ∷ es) = away e.line es && distinct es
 some_is : (i j : Instruction) → Some i ≡ Some j → i ≡ j
 some_is i j e = cc
 
-no_some : (i : Instruction) → ◌≡◌ {A = Option Instruction} None (Some i) → ⊥
-no_some i e = let n : ◌≡◌ {A = ℕ} 0 1 = cc in omega arith
-
 -- what a scan finds is spelled
 sound : (es : List Entry) (i : Instruction) (h : ℕ) → sitting es ≡ true → scan es h ≡ Some i → Among es i h
-sound [] i h s e = absurd (no_some i e)
+sound [] i h s e = absurd (none-some i e)
 sound (e ∷ es) i h s f =
     let p = and_parts _ _ s in
-    ⊎_elim
-    (λ t. inl (subst (λ j. By e j h) (some_is (meaning e h) i (sym (cond-true _ (Some (meaning e h)) (scan es h) t) ∙ f)) (here e h p.0 t)))
-    (λ t. inr (sound es i h p.1 (sym (cond-false _ (Some (meaning e h)) (scan es h) t) ∙ f)))
-    (cases_Bool (matches e.line h))
+    cond_both (matches e.line h) _ _ (λ o. o ≡ Some i → Among (e ∷ es) i h)
+    (λ t g. inl (subst (λ j. By e j h) (some_is (meaning e h) i g) (here e h p.0 t)))
+    (λ _ g. inr (sound es i h p.1 g))
+    f
 
 passed : (r : Row) (es : List Entry) (i : Instruction) (h : ℕ) → sitting es ≡ true → away r es ≡ true → Among es i h → matches r h ≡ true → ⊥
 passed r [] i h s t n m = n
@@ -240,7 +238,7 @@ complete (e ∷ es) i h s t n =
     let q = and_parts _ _ t in
     ⊎_elim
     (λ b. let f = there e i h p.0 b in cond-true _ (Some (meaning e h)) (scan es h) f.is ∙ ap Some f.gives)
-    (λ k. ⊎_elim (λ m. absurd (passed e.line es i h p.1 q.0 k m)) (λ m. cond-false _ (Some (meaning e h)) (scan es h) m ∙ complete es i h p.1 q.1 k) (cases_Bool (matches e.line h)))
+    (λ k. cond_both (matches e.line h) _ _ (λ o. o ≡ Some i) (λ m. absurd (passed e.line es i h p.1 q.0 k m)) (λ _. complete es i h p.1 q.1 k))
     n
 
 table_sits : (s : Size) → sitting (sized s table) ≡ true
@@ -290,19 +288,17 @@ told_apart = record {
 
 outside : (lo hi : ℕ) (r : Row) (h : ℕ) → lo ≤ h → h < hi → (leb (start r + span r.layout) lo || leb hi (start r)) ≡ true → matches r h ≡ false
 outside lo hi r h a b t =
-    ⊎_elim
-    (λ m. let i = has_from r h m in ⊎_elim (λ (c : leb (start r + span r.layout) lo ≡ true). absurd (omega (arith, leb-true (start r + span r.layout) lo c, i.from, i.to))) (λ (c : leb hi (start r) ≡ true). absurd (omega (arith, leb-true hi (start r) c, i.from, i.to))) (or_cases _ _ t))
-    (λ m. m)
-    (cases_Bool (matches r h))
+    false_from_ne_true (matches r h) (λ m.
+    let i = has_from r h m in
+    ⊎_elim (λ (c : leb (start r + span r.layout) lo ≡ true). omega (arith, leb-true (start r + span r.layout) lo c, i.from, i.to)) (λ (c : leb hi (start r) ≡ true). omega (arith, leb-true hi (start r) c, i.from, i.to)) (or_cases _ _ t))
 
 -- only entries with a form near h count
 pub narrow : (lo hi : ℕ) (es : List Entry) (h : ℕ) → lo ≤ h → h < hi → scan es h ≡ scan (between lo hi es) h
 narrow lo hi [] h a b = refl
 narrow lo hi (e ∷ es) h a b =
-    ⊎_elim
-    (λ t. cond-false _ (Some (meaning e h)) (scan es h) (outside lo hi e.line h a b t) ∙ narrow lo hi es h a b ∙ ap (λ l. scan l h) (sym (cond-true _ (between lo hi es) (e ∷ between lo hi es) t)))
-    (λ t. ap (λ f. cond (matches e.line h) (Some (meaning e h)) f) (narrow lo hi es h a b) ∙ ap (λ l. scan l h) (sym (cond-false _ (between lo hi es) (e ∷ between lo hi es) t)))
-    (cases_Bool (leb (start e.line + span e.line.layout) lo || leb hi (start e.line)))
+    cond_both (leb (start e.line + span e.line.layout) lo || leb hi (start e.line)) (between lo hi es) (e ∷ between lo hi es) (λ l. scan (e ∷ es) h ≡ scan l h)
+    (λ t. cond-false _ (Some (meaning e h)) (scan es h) (outside lo hi e.line h a b t) ∙ narrow lo hi es h a b)
+    (λ _. ap (cond (matches e.line h) (Some (meaning e h))) (narrow lo hi es h a b))
 
 pub by_range : (s : Size) (lo hi h : ℕ) (r : Option Instruction) → lo ≤ h → h < hi → r ≡ scan (between lo hi (sized s table)) h → r ≡ decode s h
 unfolding decode

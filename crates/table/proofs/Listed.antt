@@ -1,9 +1,9 @@
 -- An operation that the table lists by some form has a first form by its own rows.
 use Rattle.std.proofs.Common.{◌≡◌, ℕ, ◌^◌, ◌<◌, Bool, true, false, cond, not, ◌&&◌, ◌||◌, eqb, ltb, ◌⊎◌, List, [], ◌∷◌, ◌++◌, ℤ, is_some, Some, Option, sym, refl, ap, ◌∙◌, subst, inl, inr, ⊎_elim, arith}
-use Rattle.std.proofs.lemmas.Bool.{and_parts, and_from, eqb-true, ltb-true, lt-ltb, le-ltb, cond-true, cond-false, cases_Bool, false≢true, and_right}
+use Rattle.std.proofs.lemmas.Bool.{and_parts, and_from, eqb-true, ltb-true, lt-ltb, le-ltb, cond-true, cond-false, cond_both, cases_Bool, false≢true, and_right}
 use Rattle.isa.specs.declared.operation.RegisterOp.{RegisterOp}
 use Rattle.isa.specs.declared.operation.ImmediateOp.{ImmediateOp}
-use Rattle.isa.specs.declared.operation.ImmediateOp.TheVariants.{Addi, Andi, Lsli, Lsri, Asri, Rotli, Bclri, Bseti}
+use Rattle.isa.specs.declared.operation.ImmediateOp.TheVariants.{Addi, Lsli}
 use Rattle.isa.specs.declared.operation.TestOp.{TestOp}
 use Rattle.isa.specs.declared.operation.CompareOp.{CompareOp}
 use Rattle.isa.specs.declared.operation.AccessOp.{AccessOp}
@@ -103,7 +103,7 @@ in_sized_rows : (s : Size) (r : Row) (rs : List Row) → Member r rs → has_siz
 in_sized_rows s r [] i l = absurd i
 in_sized_rows s r (q ∷ rs) (inl e) l = subst (Member r) (sym (cond-true _ (q ∷ sized_rows s rs) (sized_rows s rs) (ap (λ p. has_size s p.layout) (sym e) ∙ l))) (inl e)
 in_sized_rows s r (q ∷ rs) (inr i) l =
-    ⊎_elim (λ t. subst (Member r) (sym (cond-true _ (q ∷ sized_rows s rs) (sized_rows s rs) t)) (inr (in_sized_rows s r rs i l))) (λ t. subst (Member r) (sym (cond-false _ (q ∷ sized_rows s rs) (sized_rows s rs) t)) (in_sized_rows s r rs i l)) (cases_Bool (has_size s q.layout))
+    cond_both (has_size s q.layout) (q ∷ sized_rows s rs) (sized_rows s rs) (Member r) (λ _. inr (in_sized_rows s r rs i l)) (λ _. in_sized_rows s r rs i l)
 
 step : (b c : Bool) (g h : ℕ) (o : Option ℕ) → (b ≡ true) ⊎ ((c ≡ true) ⊎ (is_some o ≡ true)) → is_some (cond b (Some g) (cond c (Some h) o)) ≡ true
 step true c g h o w = refl
@@ -134,7 +134,7 @@ un_joined P (s ∷ ss) i = ⊎_elim (λ j. inl j) (λ j. inr (un_joined P ss j))
 un_sized : (P : Entry → Type 0) (s : Size) (es : List Entry) → In P (sized s es) → In (λ e. P e × (has_size s e.line.layout ≡ true)) es
 un_sized P s [] i = i
 un_sized P s (e ∷ es) i =
-    ⊎_elim (λ t. ⊎_elim (λ p. inl (p, t)) (λ j. inr (un_sized P s es j)) (subst (In P) (cond-true _ (e ∷ sized s es) (sized s es) t) i)) (λ t. inr (un_sized P s es (subst (In P) (cond-false _ (e ∷ sized s es) (sized s es) t) i))) (cases_Bool (has_size s e.line.layout))
+    cond_both (has_size s e.line.layout) (e ∷ sized s es) (sized s es) (λ l. In P l → In (λ k. P k × (has_size s k.line.layout ≡ true)) (e ∷ es)) (λ t. ⊎_elim (λ p. inl (p, t)) (λ j. inr (un_sized P s es j))) (λ _ j. inr (un_sized P s es j)) i
 
 -- the row of a group by which something holds, with the test that it passes
 record OfLines (P : Entry → Type 0) (t : Row → Bool) (f : Row → Reading) (rs : List Row) : Type 0 where
@@ -245,22 +245,12 @@ by_zero s Lsli z x n r (inr (inl e)) t l k =
     let f = two (ltb z 32) (ltb x 32) true (at_row r q z x e k) in
     moved s r q z x e l (λ a. absurd (false≢true a)) (λ _. (ltb-true z 32 f.0, ltb-true x 32 f.1))
 by_zero s Lsli z x n r (inr (inr i)) t l k = absurd i
-by_zero s Andi z x n r i t l k = absurd (false≢true t)
-by_zero s Lsri z x n r i t l k = absurd (false≢true t)
-by_zero s Asri z x n r i t l k = absurd (false≢true t)
-by_zero s Rotli z x n r i t l k = absurd (false≢true t)
-by_zero s Bclri z x n r i t l k = absurd (false≢true t)
-by_zero s Bseti z x n r i t l k = absurd (false≢true t)
+by_zero s _ z x n r i t l k = absurd (false≢true t)
 
 zero_moves : (p : ImmediateOp) (x n : ℕ) → is_move p x n ≡ true → n ≡ 0
 zero_moves Addi x n t = eqb-true n 0 (and_parts _ _ t).1
 zero_moves Lsli x n t = eqb-true n 0 t
-zero_moves Andi x n t = absurd (false≢true t)
-zero_moves Lsri x n t = absurd (false≢true t)
-zero_moves Asri x n t = absurd (false≢true t)
-zero_moves Rotli x n t = absurd (false≢true t)
-zero_moves Bclri x n t = absurd (false≢true t)
-zero_moves Bseti x n t = absurd (false≢true t)
+zero_moves _ x n t = absurd (false≢true t)
 
 formed-Immediate : (s : Size) (o : Operation) (h : ℕ) (p : ImmediateOp) (r : Row) → Member r (immediate_rows p) → only true true false true r ≡ true → Within s (Plain o) h (record { line = r; reading = immediate p r }) → Formed s o
 formed-Immediate s o h p r i t ((z, x, y, n, k, m, g), l) =
@@ -275,7 +265,7 @@ formed-Move s o h r (inl e) t ((z, x, y, n, k, m, g), l) = formed s (Move z x) o
 formed-Move s o h r (inr i) t w = absurd i
 
 no_branch : (b : Branch) (d : ℤ) (o : Operation) → Relative b d ≡ Plain o → ⊥
-no_branch b d o e = let z : ◌≡◌ {A = ℕ} 0 1 = cc in omega arith
+no_branch b d o e = cc
 
 section : (s : Size) (o : Operation) (h : ℕ) → OneOf (Within s (Plain o) h) sections → Formed s o
 section s o h (inl i) = let k = un_each (Within s (Plain o) h) (only true true true false) register register_rows register_ops refl i in formed-Register s o h k.op k.line.by k.line.is k.line.passes k.line.fact
@@ -304,20 +294,16 @@ pub record OfBranch (s : Size) (b : Branch) (d : ℤ) (h : ℕ) : Type 0 where
 same_branch : (b c : Branch) (d e : ℤ) → Relative c e ≡ Relative b d → c ≡ b
 same_branch b c d e p = cc
 
--- entries of operations spell no branch
-plain : (b : Branch) (d : ℤ) (o : Operation) → Plain o ≡ Relative b d → ⊥
-plain b d o e = no_branch b d o (sym e)
-
 branch_section : (s : Size) (b : Branch) (d : ℤ) (h : ℕ) → OneOf (Within s (Relative b d) h) sections → OfBranch s b d h
-branch_section s b d h (inl i) = let k = un_each (Within s (Relative b d) h) (λ r. true) register register_rows register_ops refl i in absurd (plain b d _ k.line.fact.0.5)
-branch_section s b d h (inr (inl i)) = let k = un_each (Within s (Relative b d) h) (λ r. true) immediate immediate_rows immediate_ops refl i in absurd (plain b d _ k.line.fact.0.5)
-branch_section s b d h (inr (inr (inl i))) = let k = un_each (Within s (Relative b d) h) (λ r. true) test test_rows test_ops refl i in absurd (plain b d _ k.line.fact.0.5)
-branch_section s b d h (inr (inr (inr (inl i)))) = let k = un_each (Within s (Relative b d) h) (λ r. true) compare compare_rows compare_ops refl i in absurd (plain b d _ k.line.fact.0.5)
-branch_section s b d h (inr (inr (inr (inr (inl i))))) = let k = un_each (Within s (Relative b d) h) (λ r. true) access access_rows access_ops refl i in absurd (plain b d _ k.line.fact.0.5)
-branch_section s b d h (inr (inr (inr (inr (inr (inl i)))))) = let k = un_lines (Within s (Relative b d) h) (λ r. true) move short_move_rows refl i in absurd (plain b d _ k.fact.0.5)
-branch_section s b d h (inr (inr (inr (inr (inr (inr (inl i))))))) = let k = un_each (Within s (Relative b d) h) (λ r. true) constant constant_rows constant_ops refl i in absurd (plain b d _ k.line.fact.0.5)
-branch_section s b d h (inr (inr (inr (inr (inr (inr (inr (inl i)))))))) = let k = un_each (Within s (Relative b d) h) (λ r. true) jump jump_rows jump_ops refl i in absurd (plain b d _ k.line.fact.0.5)
-branch_section s b d h (inr (inr (inr (inr (inr (inr (inr (inr (inl i))))))))) = let k = un_lines (Within s (Relative b d) h) (λ r. true) bkpt bkpt_rows refl i in absurd (plain b d _ k.fact.0.5)
+branch_section s b d h (inl i) = let k = un_each (Within s (Relative b d) h) (λ r. true) register register_rows register_ops refl i in absurd (no_branch b d _ (sym k.line.fact.0.5))
+branch_section s b d h (inr (inl i)) = let k = un_each (Within s (Relative b d) h) (λ r. true) immediate immediate_rows immediate_ops refl i in absurd (no_branch b d _ (sym k.line.fact.0.5))
+branch_section s b d h (inr (inr (inl i))) = let k = un_each (Within s (Relative b d) h) (λ r. true) test test_rows test_ops refl i in absurd (no_branch b d _ (sym k.line.fact.0.5))
+branch_section s b d h (inr (inr (inr (inl i)))) = let k = un_each (Within s (Relative b d) h) (λ r. true) compare compare_rows compare_ops refl i in absurd (no_branch b d _ (sym k.line.fact.0.5))
+branch_section s b d h (inr (inr (inr (inr (inl i))))) = let k = un_each (Within s (Relative b d) h) (λ r. true) access access_rows access_ops refl i in absurd (no_branch b d _ (sym k.line.fact.0.5))
+branch_section s b d h (inr (inr (inr (inr (inr (inl i)))))) = let k = un_lines (Within s (Relative b d) h) (λ r. true) move short_move_rows refl i in absurd (no_branch b d _ (sym k.fact.0.5))
+branch_section s b d h (inr (inr (inr (inr (inr (inr (inl i))))))) = let k = un_each (Within s (Relative b d) h) (λ r. true) constant constant_rows constant_ops refl i in absurd (no_branch b d _ (sym k.line.fact.0.5))
+branch_section s b d h (inr (inr (inr (inr (inr (inr (inr (inl i)))))))) = let k = un_each (Within s (Relative b d) h) (λ r. true) jump jump_rows jump_ops refl i in absurd (no_branch b d _ (sym k.line.fact.0.5))
+branch_section s b d h (inr (inr (inr (inr (inr (inr (inr (inr (inl i))))))))) = let k = un_lines (Within s (Relative b d) h) (λ r. true) bkpt bkpt_rows refl i in absurd (no_branch b d _ (sym k.fact.0.5))
 branch_section s b d h (inr (inr (inr (inr (inr (inr (inr (inr (inr (inl i)))))))))) =
     let k = un_each (Within s (Relative b d) h) (λ r. true) relative branch_rows branches refl i in
     let e = same_branch b k.op d _ k.line.fact.0.5 in

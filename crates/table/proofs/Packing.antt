@@ -6,11 +6,11 @@ use Rattle.std.proofs.lemmas.Bool.{and_parts, and_from, eqb-true, eq-eqb, false�
 use Rattle.std.proofs.lemmas.Nat.{pow_pos, pow-add, mod-pow-add, mod_below, shr_high, mod_low, shr_split}
 use Rattle.table.specs.Diagram.{Operand, reg_z, reg_x, reg_y, number, Part, fixed, unused, field, slice, bits, index, is, width, place, join, taken, agrees}
 
-slice_is : (n p k : ℕ) → slice n p k ≡ n / 2 ^ p % 2 ^ k
+pub slice_is : (n p k : ℕ) → slice n p k ≡ n / 2 ^ p % 2 ^ k
 slice_is n zero k = ap (λ m. m % 2 ^ k) (sym (div-one n))
 slice_is n (suc p) k = refl
 
-slice_below : (n p k : ℕ) → slice n p k < 2 ^ k
+pub slice_below : (n p k : ℕ) → slice n p k < 2 ^ k
 slice_below n p k = subst (λ m. m < 2 ^ k) (sym (slice_is n p k)) (mod_below (n / 2 ^ p) (2 ^ k) (pow_pos k))
 
 low_below : (n s : ℕ) → n % 2 ^ s < 2 ^ s
@@ -20,7 +20,7 @@ low_below n s = mod_below n (2 ^ s) (pow_pos s)
 split : (n s k : ℕ) → n % 2 ^ (k + s) ≡ slice n s k * 2 ^ s + n % 2 ^ s
 split n s k = mod-pow-add n k s ∙ ap (λ m. m * 2 ^ s + n % 2 ^ s) (sym (slice_is n s k))
 
-two_below : (a b s k : ℕ) → a < 2 ^ k → b < 2 ^ s → a * 2 ^ s + b < 2 ^ (k + s)
+pub two_below : (a b s k : ℕ) → a < 2 ^ k → b < 2 ^ s → a * 2 ^ s + b < 2 ^ (k + s)
 two_below a b s k p q = subst (λ m. a * 2 ^ s + b < m) (sym (pow-add 2 k s)) (digits_lt p q)
 
 record Two (a b c d : ℕ) : Type 0 where

@@ -1,6 +1,7 @@
 -- The first form of an operation by its own rows is one that the table lists for it.
-use Rattle.std.proofs.Common.{◌≡◌, ℕ, zero, suc, ◌≤◌, Bool, true, cond, not, ◌&&◌, ltb, ◌⊎◌, List, [], ◌∷◌, ◌++◌, get_or, Some, None, Option, sym, refl, ap, ◌∙◌, subst, inl, inr, ⊎_elim, arith}
-use Rattle.std.proofs.lemmas.Bool.{and_parts, and_from, ltb-false, cond-true, cond-false, cases_Bool, not-true, true≢false, false≢true}
+use Rattle.std.proofs.Common.{◌≡◌, ℕ, zero, suc, ◌<◌, ◌≤◌, Bool, true, not, ◌&&◌, ltb, ◌⊎◌, List, [], ◌∷◌, ◌++◌, length, get_or, Some, Option, sym, refl, ap, ◌∙◌, subst, inl, inr, ⊎_elim, lit<, arith}
+use Rattle.std.proofs.lemmas.Bool.{and_parts, and_from, ltb-false, cond-true, cond-false, cond_both, cases_Bool, not-true, true≢false, false≢true}
+use Rattle.std.proofs.lemmas.Option.{none-some}
 use Rattle.isa.specs.declared.operation.RegisterOp.{RegisterOp}
 use Rattle.isa.specs.declared.operation.RegisterOp.TheVariants.{Addu, Addc, Subu, And, Andn, Or, Lsl, Lsr, Asr, Rotl, Mult, Ixh, Ixw}
 use Rattle.isa.specs.declared.operation.ImmediateOp.{ImmediateOp}
@@ -31,67 +32,69 @@ abbrev pub Member : {O : Type 0} → O → List O → Type 0
 Member o [] = ⊥
 Member o (p ∷ os) = (o ≡ p) ⊎ Member o os
 
+nth : {O : Type 0} (d : O) (os : List O) (k : ℕ) → k < length os → Member (get_or os k d) os
+nth d [] k l = absurd (omega arith)
+nth d (o ∷ os) zero l = inl refl
+nth d (o ∷ os) (suc k) l = inr (nth d os k (omega arith))
+
 each-RegisterOp : (o : RegisterOp) → Member o register_ops
-each-RegisterOp Addu = inl refl
-each-RegisterOp Addc = inr (inl refl)
-each-RegisterOp Subu = inr (inr (inl refl))
-each-RegisterOp And = inr (inr (inr (inl refl)))
-each-RegisterOp Andn = inr (inr (inr (inr (inl refl))))
-each-RegisterOp Or = inr (inr (inr (inr (inr (inl refl)))))
-each-RegisterOp Lsl = inr (inr (inr (inr (inr (inr (inl refl))))))
-each-RegisterOp Lsr = inr (inr (inr (inr (inr (inr (inr (inl refl)))))))
-each-RegisterOp Asr = inr (inr (inr (inr (inr (inr (inr (inr (inl refl))))))))
-each-RegisterOp Rotl = inr (inr (inr (inr (inr (inr (inr (inr (inr (inl refl)))))))))
-each-RegisterOp Mult = inr (inr (inr (inr (inr (inr (inr (inr (inr (inr (inl refl))))))))))
-each-RegisterOp Ixh = inr (inr (inr (inr (inr (inr (inr (inr (inr (inr (inr (inl refl)))))))))))
-each-RegisterOp Ixw = inr (inr (inr (inr (inr (inr (inr (inr (inr (inr (inr (inr (inl refl))))))))))))
+each-RegisterOp Addu = nth Addu register_ops 0 (lit< tt)
+each-RegisterOp Addc = nth Addc register_ops 1 (lit< tt)
+each-RegisterOp Subu = nth Subu register_ops 2 (lit< tt)
+each-RegisterOp And = nth And register_ops 3 (lit< tt)
+each-RegisterOp Andn = nth Andn register_ops 4 (lit< tt)
+each-RegisterOp Or = nth Or register_ops 5 (lit< tt)
+each-RegisterOp Lsl = nth Lsl register_ops 6 (lit< tt)
+each-RegisterOp Lsr = nth Lsr register_ops 7 (lit< tt)
+each-RegisterOp Asr = nth Asr register_ops 8 (lit< tt)
+each-RegisterOp Rotl = nth Rotl register_ops 9 (lit< tt)
+each-RegisterOp Mult = nth Mult register_ops 10 (lit< tt)
+each-RegisterOp Ixh = nth Ixh register_ops 11 (lit< tt)
+each-RegisterOp Ixw = nth Ixw register_ops 12 (lit< tt)
 
 each-ImmediateOp : (o : ImmediateOp) → Member o immediate_ops
-each-ImmediateOp Addi = inl refl
-each-ImmediateOp Andi = inr (inl refl)
-each-ImmediateOp Lsli = inr (inr (inl refl))
-each-ImmediateOp Lsri = inr (inr (inr (inl refl)))
-each-ImmediateOp Asri = inr (inr (inr (inr (inl refl))))
-each-ImmediateOp Rotli = inr (inr (inr (inr (inr (inl refl)))))
-each-ImmediateOp Bclri = inr (inr (inr (inr (inr (inr (inl refl))))))
-each-ImmediateOp Bseti = inr (inr (inr (inr (inr (inr (inr (inl refl)))))))
+each-ImmediateOp Addi = nth Addi immediate_ops 0 (lit< tt)
+each-ImmediateOp Andi = nth Andi immediate_ops 1 (lit< tt)
+each-ImmediateOp Lsli = nth Lsli immediate_ops 2 (lit< tt)
+each-ImmediateOp Lsri = nth Lsri immediate_ops 3 (lit< tt)
+each-ImmediateOp Asri = nth Asri immediate_ops 4 (lit< tt)
+each-ImmediateOp Rotli = nth Rotli immediate_ops 5 (lit< tt)
+each-ImmediateOp Bclri = nth Bclri immediate_ops 6 (lit< tt)
+each-ImmediateOp Bseti = nth Bseti immediate_ops 7 (lit< tt)
 
 each-TestOp : (o : TestOp) → Member o test_ops
-each-TestOp Btsti = inl refl
-each-TestOp Cmplti = inr (inl refl)
-each-TestOp Cmpnei = inr (inr (inl refl))
+each-TestOp Btsti = nth Btsti test_ops 0 (lit< tt)
+each-TestOp Cmplti = nth Cmplti test_ops 1 (lit< tt)
+each-TestOp Cmpnei = nth Cmpnei test_ops 2 (lit< tt)
 
 each-CompareOp : (o : CompareOp) → Member o compare_ops
-each-CompareOp Cmphs = inl refl
-each-CompareOp Cmplt = inr (inl refl)
-each-CompareOp Cmpne = inr (inr (inl refl))
+each-CompareOp Cmphs = nth Cmphs compare_ops 0 (lit< tt)
+each-CompareOp Cmplt = nth Cmplt compare_ops 1 (lit< tt)
+each-CompareOp Cmpne = nth Cmpne compare_ops 2 (lit< tt)
 
 each-AccessOp : (o : AccessOp) → Member o access_ops
-each-AccessOp LdB = inl refl
-each-AccessOp LdH = inr (inl refl)
-each-AccessOp LdW = inr (inr (inl refl))
-each-AccessOp LdBs = inr (inr (inr (inl refl)))
-each-AccessOp LdHs = inr (inr (inr (inr (inl refl))))
-each-AccessOp StB = inr (inr (inr (inr (inr (inl refl)))))
-each-AccessOp StH = inr (inr (inr (inr (inr (inr (inl refl))))))
-each-AccessOp StW = inr (inr (inr (inr (inr (inr (inr (inl refl)))))))
+each-AccessOp LdB = nth LdB access_ops 0 (lit< tt)
+each-AccessOp LdH = nth LdH access_ops 1 (lit< tt)
+each-AccessOp LdW = nth LdW access_ops 2 (lit< tt)
+each-AccessOp LdBs = nth LdBs access_ops 3 (lit< tt)
+each-AccessOp LdHs = nth LdHs access_ops 4 (lit< tt)
+each-AccessOp StB = nth StB access_ops 5 (lit< tt)
+each-AccessOp StH = nth StH access_ops 6 (lit< tt)
+each-AccessOp StW = nth StW access_ops 7 (lit< tt)
 
 each-ConstantOp : (o : ConstantOp) → Member o constant_ops
-each-ConstantOp Movi = inl refl
-each-ConstantOp Movih = inr (inl refl)
+each-ConstantOp Movi = nth Movi constant_ops 0 (lit< tt)
+each-ConstantOp Movih = nth Movih constant_ops 1 (lit< tt)
 
 each-JumpOp : (o : JumpOp) → Member o jump_ops
-each-JumpOp Jmp = inl refl
-each-JumpOp Jsr = inr (inl refl)
+each-JumpOp Jmp = nth Jmp jump_ops 0 (lit< tt)
+each-JumpOp Jsr = nth Jsr jump_ops 1 (lit< tt)
 
 each-Branch : (o : Branch) → Member o branches
-each-Branch Br = inl refl
-each-Branch Bt = inr (inl refl)
-each-Branch Bf = inr (inr (inl refl))
-each-Branch Bsr = inr (inr (inr (inl refl)))
-
-pub none_some : (h : ℕ) → ◌≡◌ {A = Option ℕ} None (Some h) → ⊥
-none_some h e = let z : ◌≡◌ {A = ℕ} 0 1 = cc in omega arith
+each-Branch Br = nth Br branches 0 (lit< tt)
+each-Branch Bt = nth Bt branches 1 (lit< tt)
+each-Branch Bf = nth Bf branches 2 (lit< tt)
+each-Branch Bsr = nth Bsr branches 3 (lit< tt)
 
 pub some_same : (g h : ℕ) → ◌≡◌ {A = Option ℕ} (Some g) (Some h) → h ≡ g
 some_same g h e = cc
@@ -125,16 +128,16 @@ in_sized : (P : Entry → Type 0) (s : Size) (es : List Entry) → In (λ e. P e
 in_sized P s [] i = absurd i
 in_sized P s (e ∷ es) (inl p) = subst (In P) (sym (cond-true _ (e ∷ sized s es) (sized s es) p.1)) (inl p.0)
 in_sized P s (e ∷ es) (inr i) =
-    ⊎_elim (λ t. subst (In P) (sym (cond-true _ (e ∷ sized s es) (sized s es) t)) (inr (in_sized P s es i))) (λ t. subst (In P) (sym (cond-false _ (e ∷ sized s es) (sized s es) t)) (in_sized P s es i)) (cases_Bool (has_size s e.line.layout))
+    cond_both (has_size s e.line.layout) (e ∷ sized s es) (sized s es) (In P) (λ t. inr (in_sized P s es i)) (λ t. in_sized P s es i)
 
 -- a row of one size
 pub sized_row : (s : Size) (r : Row) (rs : List Row) → Member r (sized_rows s rs) → Member r rs × (has_size s r.layout ≡ true)
 sized_row s r [] i = absurd i
 sized_row s r (q ∷ rs) i =
-    ⊎_elim
-    (λ t. ⊎_elim (λ e. (inl e, ap (λ p. has_size s p.layout) e ∙ t)) (λ j. let k = sized_row s r rs j in (inr k.0, k.1)) (subst (Member r) (cond-true _ (q ∷ sized_rows s rs) (sized_rows s rs) t) i))
-    (λ t. let k = sized_row s r rs (subst (Member r) (cond-false _ (q ∷ sized_rows s rs) (sized_rows s rs) t) i) in (inr k.0, k.1))
-    (cases_Bool (has_size s q.layout))
+    cond_both (has_size s q.layout) (q ∷ sized_rows s rs) (sized_rows s rs) (λ l. Member r l → Member r (q ∷ rs) × (has_size s r.layout ≡ true))
+    (λ t. ⊎_elim (λ e. (inl e, ap (λ p. has_size s p.layout) e ∙ t)) (λ j. let k = sized_row s r rs j in (inr k.0, k.1)))
+    (λ t j. let k = sized_row s r rs j in (inr k.0, k.1))
+    i
 
 -- the row that gave the first form
 record First (c : Bool) (rs : List Row) (z x y n h : ℕ) : Type 0 where
@@ -143,17 +146,15 @@ record First (c : Bool) (rs : List Row) (z x y n h : ℕ) : Type 0 where
   way : ((holds by z x y n ≡ true) × (h ≡ form by z x y n)) ⊎ ((c ≡ true) × (holds by z y x n ≡ true) × (h ≡ form by z y x n))
 
 first_row : (c : Bool) (rs : List Row) (z x y n h : ℕ) → first c rs z x y n ≡ Some h → First c rs z x y n h
-first_row c [] z x y n h e = absurd (none_some h e)
+first_row c [] z x y n h e = absurd (none-some h e)
 first_row c (r ∷ rs) z x y n h e =
-    ⊎_elim
-    (λ t. record { by = r; is = inl refl; way = inl (t, some_same _ _ (sym (cond-true _ (Some (form r z x y n)) _ t) ∙ e)) })
-    (λ t.
-    let g = sym (cond-false _ (Some (form r z x y n)) (cond (c && holds r z y x n) (Some (form r z y x n)) (first c rs z x y n)) t) ∙ e in
-    ⊎_elim
-    (λ u. let p = and_parts _ _ u in record { by = r; is = inl refl; way = inr (p.0, p.1, some_same _ _ (sym (cond-true _ (Some (form r z y x n)) _ u) ∙ g)) })
-    (λ u. let s = first_row c rs z x y n h (sym (cond-false _ (Some (form r z y x n)) (first c rs z x y n) u) ∙ g) in record { by = s.by; is = inr s.is; way = s.way })
-    (cases_Bool (c && holds r z y x n)))
-    (cases_Bool (holds r z x y n))
+    let P : Option ℕ → Type 0 = λ o. o ≡ Some h → First c (r ∷ rs) z x y n h in
+    cond_both (holds r z x y n) _ _ P
+    (λ t f. record { by = r; is = inl refl; way = inl (t, some_same _ _ f) })
+    (λ _. cond_both (c && holds r z y x n) _ _ P
+    (λ u f. let p = and_parts _ _ u in record { by = r; is = inl refl; way = inr (p.0, p.1, some_same _ _ f) })
+    (λ _ f. let s = first_row c rs z x y n h f in record { by = s.by; is = inr s.is; way = s.way }))
+    e
 
 -- h spells i by an entry of a size
 abbrev pub Within : Size → Instruction → ℕ → Entry → Type 0
@@ -179,7 +180,7 @@ exchanged o z x y c p =
     (λ t. cond-true _ _ _ (and_from _ _ c t))
     (λ t. let l : y ≤ x = ltb-false x y t in let m : x ≤ y = ltb-false y x (⊎_elim (λ (u : ltb y x ≡ true). absurd (true≢false (sym (and_from _ _ c u) ∙ not-true _ p))) (λ u. u) (cases_Bool (ltb y x))) in
     let e : x ≡ y = omega arith in
-    subst (λ k. normal (Register o z y k) ≡ Register o z k y) (sym e) (⊎_elim (λ u. cond-true _ _ _ u) (λ u. cond-false _ _ _ u) (cases_Bool (commutes o && ltb y y))))
+    subst (λ k. normal (Register o z y k) ≡ Register o z k y) (sym e) (cond_both (commutes o && ltb y y) _ _ (λ q. q ≡ Register o z y y) (λ _. refl) (λ _. refl)))
     (cases_Bool (ltb x y))
 
 steady : (o : ImmediateOp) (z x n : ℕ) → not (is_move o x n) ≡ true → normal (Immediate o z x n) ≡ Immediate o z x n
@@ -201,14 +202,7 @@ spells s Bkpt r h i l p t f = let P = (Within s (Plain Bkpt) h) in in_joined P s
 
 spells_exchanged : (s : Size) (o : Operation) (r : Row) (h : ℕ) → Member r (rows o) → has_size s r.layout ≡ true → is_normal o ≡ true → exchanges o ≡ true → holds r (operand o reg_z) (operand o reg_y) (operand o reg_x) (operand o number) ≡ true → h ≡ form r (operand o reg_z) (operand o reg_y) (operand o reg_x) (operand o number) → In (Within s (Plain o) h) table
 spells_exchanged s (Register o z x y) r h i l p c t f = in_section s _ h 0 register register_rows register_ops o r refl (each-RegisterOp o) i ((z, y, x, 0, t, ap Plain (exchanged o z x y c p), f), l)
-spells_exchanged s (Immediate o z x n) r h i l p c t f = absurd (false≢true c)
-spells_exchanged s (Test o x n) r h i l p c t f = absurd (false≢true c)
-spells_exchanged s (Compare o x y) r h i l p c t f = absurd (false≢true c)
-spells_exchanged s (Access o z x n) r h i l p c t f = absurd (false≢true c)
-spells_exchanged s (Move z x) r h i l p c t f = absurd (false≢true c)
-spells_exchanged s (Constant o z n) r h i l p c t f = absurd (false≢true c)
-spells_exchanged s (Jump o x) r h i l p c t f = absurd (false≢true c)
-spells_exchanged s Bkpt r h i l p c t f = absurd (false≢true c)
+spells_exchanged s _ r h i l p c t f = absurd (false≢true c)
 
 -- the first form of a normal operation is one of its forms
 pub form_spells : (s : Size) (o : Operation) (h : ℕ) → is_normal o ≡ true → form_of s o ≡ Some h → Spells s (Plain o) h

@@ -4,47 +4,33 @@ ghost use Rattle.table.specs.Laws.{DecodesExactly, Unshared, FormsOfActs, FormsO
 ghost use Rattle.table.specs.Worked.{WorkedExamples};
 
 // A halfword or a word decodes to an instruction exactly when the table spells it so, and else is unknown.
-pub fn decodes_exactly_what_the_table_spells() -> u8
+pub fn decodes_exactly_what_the_table_spells()
     ensures { (DecodesExactly short) × (DecodesExactly long) }
-{
-    0
-}
+{}
 
-pub fn no_two_instructions_share_a_form() -> u8
+pub fn no_two_instructions_share_a_form()
     ensures { (Unshared short) × (Unshared long) }
-{
-    0
-}
+{}
 
 // An operation is an act exactly when some form spells it.
-pub fn acts_are_what_forms_spell() -> u8
+pub fn acts_are_what_forms_spell()
     ensures { (FormsOfActs short) × ((FormsOfActs long) × (ActsHaveForms)) }
-{
-    0
-}
+{}
 
-pub fn branches_have_the_forms_that_spell_them() -> u8
+pub fn branches_have_the_forms_that_spell_them()
     ensures { (FormsOfBranches short) × (FormsOfBranches long) }
-{
-    0
-}
+{}
 
 // The form used is one of least length.
-pub fn least_form_is_used() -> u8
+pub fn least_form_is_used()
     ensures { UsesLeast }
-{
-    0
-}
+{}
 
 // The first halfword tells whether a second one follows.
-pub fn first_halfword_tells_the_length() -> u8
+pub fn first_halfword_tells_the_length()
     ensures { ToldApart }
-{
-    0
-}
+{}
 
-pub fn worked_examples() -> u8
+pub fn worked_examples()
     ensures { WorkedExamples }
-{
-    0
-}
+{}

@@ -1,3 +1,4 @@
+// The instruction table, and what holds of it.
 #![tactic(auto)]
 
 pub mod laws;

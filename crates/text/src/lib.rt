@@ -2,5 +2,7 @@
 #![tactic(auto)]
 
 pub mod mnemonic;
+pub mod named;
 pub mod names;
 pub mod operation;
+pub mod written;

@@ -2,7 +2,9 @@
 use crate::operation::operation;
 use act::act::Act;
 use isa::form::Form;
+use std::str::SplitWhitespace;
 
+#[derive(Clone, Copy)]
 pub(crate) enum Verdict {
     // GNU uses our form
     Same,
@@ -15,35 +17,29 @@ pub(crate) enum Verdict {
 // A form written in four or eight hexadecimal digits.
 fn form(digits: &str) -> Option<Form> {
     if digits.len() == 4 {
-        return Some(Form::Short(u16::from_str_radix(digits, 16).ok()?));
-    }
-    Some(Form::Long(u32::from_str_radix(digits, 16).ok()?))
-}
-
-fn equal(a: Form, b: Form) -> bool {
-    match (a, b) {
-        (Form::Short(g), Form::Short(h)) => g == h,
-        (Form::Long(v), Form::Long(w)) => v == w,
-        _ => false,
+        u16::from_str_radix(digits, 16).ok().map(Form::Short)
+    } else {
+        u32::from_str_radix(digits, 16).ok().map(Form::Long)
     }
 }
 
-// Our form and GNU's for one act. No two acts share a form, so acts with one used form are the same.
+fn number(words: &mut SplitWhitespace<'_>) -> Option<u32> {
+    words.next()?.parse::<u32>().ok()
+}
+
+// Our form and GNU's for one act.
 fn compare(act: Act, ours: &str, gnu: Form) -> Option<Verdict> {
     let used = act.form();
-    if !equal(used, form(ours)?) {
+    if form(ours)? != used {
         return None;
     }
     let Some(read) = Act::spelled_by(gnu) else {
         return Some(Verdict::OutsideTable);
     };
-    if equal(used, gnu) {
+    if gnu == used {
         return Some(Verdict::Same);
     }
-    if equal(used, read.form()) {
-        return Some(Verdict::OtherForm);
-    }
-    None
+    (read == act).then_some(Verdict::OtherForm)
 }
 
 // What a line says of us and GNU; none where that is not so.
@@ -52,10 +48,12 @@ pub(crate) fn judge(line: &str) -> Option<Verdict> {
     let ours = words.next()?;
     let gnu = form(words.next()?)?;
     let name = words.next()?;
-    let a = words.next()?.parse::<u32>().ok()?;
-    let b = words.next()?.parse::<u32>().ok()?;
-    let c = words.next()?.parse::<u32>().ok()?;
-    match Act::new(operation(name, a, b, c)?) {
+    let numbers = [
+        number(&mut words)?,
+        number(&mut words)?,
+        number(&mut words)?,
+    ];
+    match Act::new(operation(name, numbers)?) {
         Ok(act) => compare(act, ours, gnu),
         Err(_) if ours == "none" && Act::spelled_by(gnu).is_none() => Some(Verdict::OutsideTable),
         Err(_) => None,

@@ -1,12 +1,10 @@
-use Rattle.std.proofs.Common.{sym}
+use Rattle.std.proofs.Common.{IsSome, sym, ◌∙◌, subst}
 use Rattle.table.proofs.Acts.{uses_least}
-use Rattle.act.proofs.Making.{never_unformed}
+use Rattle.act.proofs.Making.{formed}
 use Rattle.act.proofs.act.Act.form.Goals as goal
 
-pub unreachable-requires : goal.unreachable-requires
-unreachable-requires c = never_unformed c.args.self.operation c.args.self.spelled (sym c.in-None.ensures)
+pub unwrap-requires : goal.unwrap-requires
+unwrap-requires c = subst IsSome (sym c.used_form.ensures) (formed c.args.self.operation c.args.self.spelled)
 
-pub returns : goal.returns
-returns c =
-    let e = sym c.in-Some.ensures in
-    record { used = e; least = uses_least.act c.args.self.operation c.in-Some.form c.args.self.spelled e }
+pub returns-clause-least : goal.returns-clause-least
+returns-clause-least c = uses_least.act c.args.self.operation c.unwrap.result c.args.self.spelled (sym c.used_form.ensures ∙ c.unwrap.ensures)
