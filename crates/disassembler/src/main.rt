@@ -7,6 +7,7 @@ use crate::lines::Lines;
 use anyhow::anyhow;
 use image::image::Image;
 use image::trouble::ImageError;
+use listing::line::Line;
 use std::alloc::Global;
 use std::fmt;
 use std::fmt::Write;
@@ -14,7 +15,11 @@ use std::fmt::Write;
 // A line for each instruction of an image, and how many bytes it has.
 fn disassembled(heap: Global, image: &Image) -> Result<String, fmt::Error> {
     let mut text = String::new(heap);
-    for line in Lines::new(image.base, image.bytes.as_slice()) {
+    let first = Line {
+        address: image.base,
+        code: image.bytes.as_slice(),
+    };
+    for line in Lines(first) {
         writeln!(text, "{line}")?;
     }
     let count = image.bytes.len();

@@ -18,8 +18,8 @@ fn start(words: &mut Words<'_>, memory: Map) -> Option<State> {
     Some(state)
 }
 
-// Whether the case of a line comes out as it states, over two memories that are alike; none where it is no case.
-pub(crate) fn agrees(line: &str, memory: Map, other: Map) -> Option<bool> {
+// The case of a line comes out as it states, over two memories that are alike; none where it does not, or is no case.
+pub(crate) fn agrees(line: &str, memory: Map, other: Map) -> Option<()> {
     let mut words = Words::of(line);
     let instruction = instruction(&mut words)?;
     let mut found = start(&mut words, memory)?;
@@ -33,5 +33,5 @@ pub(crate) fn agrees(line: &str, memory: Map, other: Map) -> Option<bool> {
     let answer = found
         .registers
         .obey(instruction, pc, next, &mut found.memory);
-    Some(answer == stated && found.is_like(&expected))
+    (answer == stated && found.is_like(&expected)).then_some(())
 }

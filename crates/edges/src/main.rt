@@ -19,7 +19,7 @@ fn main(rt: HostRuntime) -> anyhow::Result<()> {
         let line = read?;
         let memory = map(rt.alloc())?;
         let other = map(rt.alloc())?;
-        if agrees(line.as_str(), memory, other).unwrap_or(false) {
+        if agrees(line.as_str(), memory, other).is_some() {
             same = same.saturating_add(1);
         } else {
             wrong = wrong.saturating_add(1);

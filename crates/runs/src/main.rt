@@ -20,10 +20,10 @@ fn seated() -> Result<Core, Refusal> {
 }
 
 fn run_with(budget: u32, code: &[u8]) -> Ran {
-    match seated() {
-        Ok(mut core) => core.run(code, &mut Mailbox::new(0), budget),
-        Err(refusal) => Ran::stopped(0, refusal),
-    }
+    seated().map_or_else(
+        |refusal| Ran::stopped(0, refusal),
+        |mut core| core.run(code, &mut Mailbox::new(0), budget),
+    )
 }
 
 // What run to answers, and whether the code is then as it was.
@@ -35,13 +35,13 @@ fn run_to(address: u32, budget: u32) -> Result<(Ran, bool), Refusal> {
 }
 
 // The byte at an index while a patch stands at an address, and after it.
-fn under_patch(address: u32, index: usize) -> Result<(u8, u8), Refusal> {
-    let core = seated()?;
+fn under_patch(address: u32, index: usize) -> Option<(u8, u8)> {
+    let core = seated().ok()?;
     let mut code = ROUTINE;
     let patch = core.patch(&mut code, address);
-    let under = patch.bytes().get(index).copied().unwrap_or(0);
+    let under = patch.bytes().get(index).copied();
     drop(patch);
-    Ok((under, code.get(index).copied().unwrap_or(0)))
+    Some((under?, code.get(index).copied()?))
 }
 
 // What seat answers, for a base, a start and a length of code: as a run of no steps.
@@ -78,7 +78,7 @@ fn patches(rt: &HostRuntime) -> anyhow::Result<()> {
     }
     tell_run_to(rt, 0x1006, 0)?;
     tell_run_to(rt, 0x1008, 0)?;
-    if let Ok((under, after)) = under_patch(0x1006, 6) {
+    if let Some((under, after)) = under_patch(0x1006, 6) {
         println!(rt; "the byte at 00001006 under a patch {under:02X}, after it {after:02X}")?;
     }
     Ok(())

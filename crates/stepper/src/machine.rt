@@ -41,7 +41,7 @@ impl<'a> Machine<'a> {
             AccessOp::StB => 1,
             AccessOp::StH => 2,
             AccessOp::StW => 4,
-            _ => 0,
+            _ => return Ok(Vec::new(heap)),
         };
         let first = self.core.registers().get(x).wrapping_add(n);
         (0..size).map(|i| first.wrapping_add(i)).collect(heap)
