@@ -22,13 +22,13 @@ fn displaced(word: u32, halfwords: i32, width: u32) -> Option<u32>
 pub fn short_branch(branch: Branch, halfwords: i32) -> Option<u16>
     ensures { result ≡ branch_form short branch halfwords }
 {
-    let word = match branch {
-        Branch::Br => 0x0400,
-        Branch::Bt => 0x0800,
-        Branch::Bf => 0x0c00,
+    let form = match branch {
+        Branch::Br => displaced(0x0400, halfwords, 10)?,
+        Branch::Bt => displaced(0x0800, halfwords, 10)?,
+        Branch::Bf => displaced(0x0c00, halfwords, 10)?,
         Branch::Bsr => return None,
     };
-    Some(displaced(word, halfwords, 10)? as u16)
+    Some(form as u16)
 }
 
 // The long form of a branch by a displacement in halfwords, if the displacement fits it.

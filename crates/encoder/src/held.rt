@@ -17,7 +17,8 @@ impl Row {
         Some(self.word + self.layout.placed(Operands { n, ..operands })?)
     }
 
-    // Likewise, with the sources exchanged.
+    // Likewise, with the sources exchanged; inlined for the same reason, as what calls it is.
+    #[inline(always)]
     fn held_exchanged(self, operands: Operands) -> Option<u32>
         ensures { result ≡ held (row_of self) operands.z operands.y operands.x operands.n }
     {
@@ -25,6 +26,7 @@ impl Row {
     }
 
     // Likewise, or with the sources exchanged.
+    #[inline(always)]
     pub(crate) fn held_either(self, operands: Operands) -> Option<u32>
         ensures { result ≡ first_by true (row_of self ∷ []) operands }
     {

@@ -21,6 +21,8 @@ fn place(text: &[u8], index: usize) -> (usize, usize)
 }
 
 impl Cause {
+    // Not inlined: it is for texts that are refused, and the loop that reads a text has better use for its registers.
+    #[inline(never)]
     pub(crate) fn at(self, text: &[u8], index: usize) -> Trouble
         ensures { result ≡ trouble_at self (place_of (take index text.now)) }
     {

@@ -8,24 +8,28 @@ use crate::trouble::{Cause, ImageError};
 use std::alloc::Global;
 
 // The bytes that the text spells from an index on, or why not and where.
+// Both digits of a byte are read in one turn: by a turn for each, the loop asks at every digit which one it is, and
+// takes half as much time again. The lemma is for such a turn.
+#[tactic(auto, using(crate::proofs::Pairs::pair))]
 pub(crate) fn read_bytes(heap: Global, text: &[u8], from: usize) -> Result<Vec<u8>, ImageError>
     ensures { Answers vec_items text.now (hex None from (drop from text.now)) result }
 {
     let mut bytes = Vec::new(heap);
-    let mut high = None;
-    let digits = text.get(from..).unwrap_or_default();
-    for (i, &byte) in digits.iter().enumerate() {
-        high = match next(high, byte).map_err(|cause| cause.at(text, from + i))? {
-            Turn::Gap => None,
-            Turn::High(d) => Some(d),
-            Turn::Byte(v) => {
-                bytes.push(v)?;
-                None
+    let mut at = from;
+    while let Some(&first) = text.get(at) {
+        match next(None, first).map_err(|cause| cause.at(text, at))? {
+            Turn::High(high) => {
+                let Some(&second) = text.get(at + 1) else {
+                    return Err(Cause::HalfByte.at(text, text.len()).into());
+                };
+                let turn = next(Some(high), second);
+                if let Turn::Byte(byte) = turn.map_err(|cause| cause.at(text, at + 1))? {
+                    bytes.push(byte)?;
+                }
+                at += 2;
             }
-        };
-    }
-    if high.is_some() {
-        return Err(Cause::HalfByte.at(text, text.len()).into());
+            _ => at += 1,
+        }
     }
     Ok(bytes)
 }
