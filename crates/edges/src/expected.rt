@@ -15,9 +15,11 @@ impl State {
 
     // Writes the bytes that the words give, from the first one's address on.
     fn write_bytes(&mut self, words: &mut Words<'_>) -> Option<()> {
-        for (address, word) in (words.number()?..).zip(words.rest()) {
+        let first = words.number()?;
+        // offsets, since a range of addresses ends before the last one
+        for (offset, word) in (0..).zip(words.rest()) {
             let byte = u8::from_str_radix(word, 16).ok()?;
-            self.memory.write(address, byte).ok()?;
+            self.memory.write(first.wrapping_add(offset), byte).ok()?;
         }
         Some(())
     }
