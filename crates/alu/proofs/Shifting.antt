@@ -58,10 +58,10 @@ turned_over x k h b =
 power : (k : ℕ) → 2 ^ (32 - k) ≤ 2 ^ 32
 power k = let h : 32 - k ≤ 32 = omega arith in pow-le-pow_right (omega arith) h
 
-shifted : (x k : ℕ) → x < 2 ^ 32 → k < 32 → of_z w32 (shr_z (to_z w32 x) (2 ^ k)) ≡ asr x k
+pub shifted : (x k : ℕ) → x < 2 ^ 32 → k < 32 → of_z w32 (shr_z (to_z w32 x) (2 ^ k)) ≡ asr x k
 shifted x k h b = let m = turned_over x k h b in let p = power k in grind (arith, ints, nat_tests)
 
-filled : (x k : ℕ) → x < 2 ^ 32 → 32 ≤ k → of_z w32 (shr_z (to_z w32 x) (2 ^ 31)) ≡ asr x k
+pub filled : (x k : ℕ) → x < 2 ^ 32 → 32 ≤ k → of_z w32 (shr_z (to_z w32 x) (2 ^ 31)) ≡ asr x k
 filled x k h b = grind (arith, ints, nat_tests)
 
 -- a shift of the signed word by at most 31

@@ -14,7 +14,7 @@ pub half_of : (k : ℕ) → 1 ≤ k → k ≤ 26 → Half k
 half_of k l u = let h : k - 1 ≤ 25 = omega arith in record { twice = halved k l; most = pow_mono h }
 
 -- a displacement that fits, and its bits
-fits : (k : ℕ) (d : ℤ) → 1 ≤ k → k ≤ 26 → SFits w32 d → (of_z w32 d + 2 ^ (k - 1)) % 4294967296 < 2 * 2 ^ (k - 1) → Some (of_z w32 d % 2 ^ k) ≡ field_of k d
+pub fits : (k : ℕ) (d : ℤ) → 1 ≤ k → k ≤ 26 → SFits w32 d → (of_z w32 d + 2 ^ (k - 1)) % 4294967296 < 2 * 2 ^ (k - 1) → Some (of_z w32 d % 2 ^ k) ≡ field_of k d
 fits k (pos n) l u s e =
     let h = half_of k l u in
     let b : n < 2147483648 = s.sfits in
