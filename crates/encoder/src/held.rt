@@ -25,12 +25,11 @@ impl Row {
         self.held(operands.exchanged())
     }
 
-    // Likewise, or with the sources exchanged.
+    // Likewise, or with the sources exchanged; `or`, since to ask for both takes less time than to branch.
     #[inline(always)]
     pub(crate) fn held_either(self, operands: Operands) -> Option<u32>
         ensures { result ≡ first_by true (row_of self ∷ []) operands }
     {
-        self.held(operands)
-            .or_else(|| self.held_exchanged(operands))
+        self.held(operands).or(self.held_exchanged(operands))
     }
 }

@@ -9,7 +9,7 @@ use std::alloc::Global;
 
 // The bytes that the text spells from an index on, or why not and where.
 // Both digits of a byte are read in one turn: by a turn for each, the loop asks at every digit which one it is, and
-// takes half as much time again. The lemma is for such a turn.
+// runs half as many instructions again. The lemma is for such a turn.
 #[tactic(auto, using(crate::proofs::Pairs::pair))]
 pub(crate) fn read_bytes(heap: Global, text: &[u8], from: usize) -> Result<Vec<u8>, ImageError>
     ensures { Answers vec_items text.now (hex None from (drop from text.now)) result }
